@@ -550,6 +550,10 @@ class Tree:
                 if file:
                     return file, rest[cut] if cut < len(rest) else None
             return None, None
+        lib = self.files.get((crate, "specs", "Lib"))
+        if rest and lib and rest[0] in lib.uses:
+            # a module of a lower crate that this one passes on
+            return self.module(".".join([lib.uses[rest[0]][0], *rest[1:]]))
         return self.files.get((crate, "specs", ".".join(rest))), None
 
     def named(self, module, name, seen=()):

@@ -5,7 +5,7 @@ use Rattle.std.proofs.lemmas.List.{append_assoc}
 use Rattle.lsa_kinds.specs.declared.kind.Kind.{Kind}
 use Rattle.lsa_kinds.specs.declared.kind.Kind.TheVariants.{Dummy}
 use Rattle.lsa_kinds.specs.Kinds.{links_of}
-use Rattle.lsa_store.specs.declared.place.Ref.{Ref}
+use Rattle.lsa_region.specs.Ref.{Ref}
 use Rattle.lsa_region.specs.Ends.{named_as}
 use Rattle.lsa_region.specs.Region.{View, body, IsWell, IsAdded, Renamed}
 use Rattle.lsa_path.specs.laws.Renamed.{some-there}

@@ -1,7 +1,7 @@
 //! The laws of recency lists, each the contract of a function that does nothing.
 ghost use Rattle.std.specs.Prelude.{◌≡◌, ◌≢◌, ℕ, List, Option, Some, None, IsSomeAnd, IfSome, Contains, map};
 ghost use Rattle.lsa_kinds.specs.declared.kind.Kind.{Kind};
-ghost use Rattle.lsa_store.specs.declared.place.Ref.{Ref};
+ghost use Rattle.lsa_region.specs.Ref.{Ref};
 ghost use Rattle.lsa_region.specs.declared.end.End.{End};
 ghost use Rattle.lsa_region.specs.declared.end.End.TheVariants.{Obj, Slot};
 ghost use Rattle.lsa_region.specs.Ends.{named_as};

@@ -1,6 +1,6 @@
 //! Objects by recency of use.
 ghost use Rattle.std.specs.Prelude.{◌≡◌, ◌≢◌, ℕ, List as Sequence, [], ◌∷◌, ◌++◌, None};
-ghost use Rattle.lsa_store.specs.declared.place.Ref.{Ref as Name};
+ghost use Rattle.lsa_region.specs.Ref.{Ref as Name};
 ghost use Rattle.lsa_region.specs.Region.{link_of, IsWell, SameObjects};
 ghost use Rattle.lsa_list.specs.Recency.{HasRecency, IsList, IsElsewhere, first, object_of};
 

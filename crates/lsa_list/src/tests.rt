@@ -1,6 +1,6 @@
 //! A list of a thousand objects beside a plain vector of their numbers, while segments are emptied.
 ghost use Rattle.std.specs.Prelude.{◌≡◌, ◌≢◌, ℕ, List as Sequence, ◌∷◌, ◌++◌, true, None, IsSome};
-ghost use Rattle.lsa_store.specs.declared.place.Ref.{Ref as Name};
+ghost use Rattle.lsa_region.specs.Ref.{Ref as Name};
 ghost use Rattle.lsa_region.specs.Region.{body, link_of, IsEnd};
 ghost use Rattle.lsa_list.specs.Recency.{IsList};
 ghost use Rattle.lsa_list.specs.calls.Recency.{IsOneOf};
@@ -25,7 +25,7 @@ struct Beside {
 
 impl Model for Beside {
     ghost use Rattle.std.specs.Prelude.{List as Sequence};
-    ghost use Rattle.lsa_store.specs.declared.place.Ref.{Ref as Name};
+    ghost use Rattle.lsa_region.specs.Ref.{Ref as Name};
     ghost use Rattle.lsa_region.specs.Region.{View};
     ghost use Rattle.lsa_list.specs.Recency.{IsList};
 

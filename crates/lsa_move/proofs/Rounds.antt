@@ -4,7 +4,7 @@ use Rattle.std.specs.Prelude.{min, IfSome, is_some}
 use Rattle.std.proofs.Math.Nat.{min-le_left, min-le_right, le-min}
 use Rattle.std.proofs.lemmas.Nat.{le-div}
 use Rattle.lsa_pool.specs.Room.{spare_of}
-use Rattle.lsa_store.specs.declared.place.Ref.{Ref}
+use Rattle.lsa_region.specs.Ref.{Ref}
 use Rattle.lsa_region.specs.Region.{View, IsWell, HasLayout, Renamed, objects_in}
 use Rattle.lsa_move.specs.Room.{IsCompacted, Compactions}
 use Rattle.lsa_region.specs.laws.Names.{renamed-same}

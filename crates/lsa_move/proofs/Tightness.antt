@@ -12,8 +12,8 @@ use Rattle.lsa_pool.specs.Account.{IsSound}
 use Rattle.lsa_pool.specs.Room.{nothing, usage_of, is_state_free, is_state_active, is_state_closed, free_count, live_sum, active_of, spare_of}
 use Rattle.lsa_pool.specs.Sparsest.{IsBest}
 use Rattle.lsa_pool.specs.laws.Usages.{within, set_elim, sparsest-best, active-state, closed-inside}
-use Rattle.lsa_store.specs.Stock.{sparse_of}
-use Rattle.lsa_store.specs.laws.Sparse.{sparse-is}
+use Rattle.lsa_region.specs.Stock.{sparse_of}
+use Rattle.lsa_region.specs.Sparse.{sparse-is}
 use Rattle.lsa_move.specs.Room.{Tight, closed_count}
 
 -- ---- there is a best segment below each number

@@ -3,8 +3,8 @@ use Rattle.std.specs.Prelude.{◌≡◌, ℕ, zero, suc, ◌+◌, ◌-◌, ◌*�
 use Rattle.lsa_pool.specs.declared.Usage.{Usage}
 use Rattle.lsa_pool.specs.declared.State.TheVariants.{Closed}
 use Rattle.lsa_pool.specs.Room.{usage_of, is_state_closed, spare_of}
-use Rattle.lsa_store.specs.declared.place.Ref.{Ref}
-use Rattle.lsa_store.specs.Stock.{sparse_of}
+use Rattle.lsa_region.specs.Ref.{Ref}
+use Rattle.lsa_region.specs.Stock.{sparse_of}
 use Rattle.lsa_region.specs.Region.{View, IsWell, IsEmptied, Risen, objects_in}
 
 -- no closed segment, of size bytes, has three quarters of a segment live or less

@@ -1,7 +1,7 @@
 //! Making room by compaction.
 ghost use Rattle.std.specs.Prelude.{◌≡◌, ℕ, ◌+◌, ◌-◌, ◌*◌, ◌/◌, ◌<◌, ◌≤◌, true, false, length, IfSome, is_some, List};
-ghost use Rattle.lsa_store.specs.declared.place.Ref.{Ref as Name};
-ghost use Rattle.lsa_store.specs.Stock.{sparse_of};
+ghost use Rattle.lsa_region.specs.Ref.{Ref as Name};
+ghost use Rattle.lsa_region.specs.Stock.{sparse_of};
 ghost use Rattle.lsa_region.specs.Region.{IsWell, Renamed};
 ghost use Rattle.lsa_pool.specs.Room.{free_count, live_sum, spare_of};
 ghost use Rattle.lsa_move.specs.Room.{Tight, closed_count, IsCompacted, Compactions};

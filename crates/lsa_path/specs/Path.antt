@@ -1,6 +1,6 @@
 -- Paths along links, over any way in which ends name ends. A path enters each object by its link toward the start, and leaves it by its link onward.
 use Rattle.std.specs.Prelude.{◌≡◌, ◌≢◌, ℕ, zero, suc, nat_eq, cond, List, [], ◌∷◌, Option, Some, None, IsSome, ⊤}
-use Rattle.lsa_store.specs.declared.place.Ref.{Ref}
+use Rattle.lsa_region.specs.Ref.{Ref}
 use Rattle.lsa_region.specs.declared.end.End.{End}
 use Rattle.lsa_region.specs.declared.end.End.TheVariants.{Obj, Slot}
 use Rattle.lsa_region.specs.Ends.{swapped}

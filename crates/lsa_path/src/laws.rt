@@ -1,7 +1,7 @@
 //! The laws of paths, each the contract of a function that does nothing.
 ghost use Rattle.std.specs.Prelude.{◌≡◌, ◌≢◌, ℕ, ◌≤◌, List, ◌∷◌, ◌++◌, length, sum_by, map, reverse, Option, Some, None, IsSome, IfSome, Contains, AllPairs};
 ghost use Rattle.std.specs.Option.{option_map};
-ghost use Rattle.lsa_store.specs.declared.place.Ref.{Ref};
+ghost use Rattle.lsa_region.specs.Ref.{Ref};
 ghost use Rattle.lsa_region.specs.declared.end.End.{End};
 ghost use Rattle.lsa_region.specs.declared.end.End.TheVariants.{Obj};
 ghost use Rattle.lsa_region.specs.Ends.{named_as, end_as};

@@ -1,7 +1,7 @@
 //! Objects on a path.
 ghost use Rattle.std.specs.Prelude.{◌≡◌, ◌≢◌, ℕ, List, ◌∷◌, ◌++◌, map, Option, Some, None, IsSome, Contains};
 ghost use Rattle.std.specs.Option.{option_map};
-ghost use Rattle.lsa_store.specs.declared.place.Ref.{Ref as Name};
+ghost use Rattle.lsa_region.specs.Ref.{Ref as Name};
 ghost use Rattle.lsa_region.specs.Ends.{named_as};
 ghost use Rattle.lsa_region.specs.Region.{link_of, IsEnd, IsWell, SameObjects};
 ghost use Rattle.lsa_path.specs.Path.{IsPath, IsOutside, IsOutsideOrUnset, behind, IsInserted, IsTakenOut, exchanged_end, each_other};

@@ -3,7 +3,7 @@ use Rattle.std.proofs.Common.{◌≡◌, ◌≢◌, ℕ, zero, suc, ◌+◌, ◌
 use Rattle.std.specs.Prelude.{nat_eq, IfSome}
 use Rattle.std.proofs.lemmas.Bool.{eq-eqb, eqb-true}
 use Rattle.lsa_kinds.specs.Kinds.{links_of}
-use Rattle.lsa_yard.specs.laws.Reading.{size-least}
+use Rattle.lsa_store.specs.Reading.{size-least}
 use Rattle.lsa_store.specs.Stored.{Stored, IsStored}
 use Rattle.lsa_store.specs.laws.Places.{standing}
 use Rattle.lsa_store.specs.laws.Written.{object-and, lie-used, lie-even}

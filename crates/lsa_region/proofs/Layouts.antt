@@ -3,8 +3,8 @@ use Rattle.std.proofs.Common.{◌≡◌, ◌≢◌, ℕ, ◌+◌, ◌<◌, ◌�
 use Rattle.std.specs.Prelude.{is_some, IsSome}
 use Rattle.std.specs.Option.{option_map}
 use Rattle.lsa_kinds.specs.declared.kind.Kind.{Kind}
-use Rattle.lsa_pool.specs.Room.{usage_of, free_count}
-use Rattle.lsa_yard.specs.Cells.{size_of}
+use Rattle.lsa_store.specs.Room.{usage_of, free_count}
+use Rattle.lsa_store.specs.Cells.{size_of}
 use Rattle.lsa_store.specs.declared.place.Ref.{Ref}
 use Rattle.lsa_store.specs.Stored.{IsStored}
 use Rattle.lsa_store.specs.laws.Words.{object}

@@ -6,11 +6,11 @@ use Rattle.std.proofs.lemmas.Bool.{eq-eqb, lt-ltb, le-ltb, cases_lt}
 use Rattle.std.proofs.lemmas.List.{get_or-set_same}
 use Rattle.lsa_kinds.specs.declared.kind.Kind.{Kind}
 use Rattle.lsa_kinds.specs.Kinds.{links_of}
-use Rattle.lsa_pool.specs.declared.Usage.{Usage}
-use Rattle.lsa_pool.specs.declared.State.TheVariants.{Closed}
-use Rattle.lsa_pool.specs.Room.{nothing, usage_of, active_of}
-use Rattle.lsa_pool.specs.laws.Usages.{decided, closed-inside}
-use Rattle.lsa_yard.specs.Cells.{Cell, size_of, extent, cell_at, fresh, gap_of}
+use Rattle.lsa_store.specs.Usage.{Usage}
+use Rattle.lsa_store.specs.State.TheVariants.{Closed}
+use Rattle.lsa_store.specs.Room.{nothing, usage_of, active_of}
+use Rattle.lsa_store.specs.Usages.{decided, closed-inside}
+use Rattle.lsa_store.specs.Cells.{Cell, size_of, extent, cell_at, fresh, gap_of}
 use Rattle.lsa_store.specs.declared.place.Ref.{Ref}
 use Rattle.lsa_store.specs.Objects.{cells_of, cell_in, body_in, rounded_size, one_if_live, live_count, IsChangedIn, IsPutIn}
 use Rattle.lsa_store.specs.Stock.{IsTaken, IsGivenBack}

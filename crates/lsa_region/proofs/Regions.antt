@@ -4,10 +4,10 @@ use Rattle.std.specs.Prelude.{IsSome, IsSomeAnd}
 use Rattle.std.specs.Option.{option_map}
 use Rattle.lsa_kinds.specs.declared.kind.Kind.{Kind}
 use Rattle.lsa_kinds.specs.Kinds.{links_of}
-use Rattle.lsa_pool.specs.declared.Usage.{Usage}
-use Rattle.lsa_pool.specs.Room.{free_count}
-use Rattle.lsa_pool.specs.laws.Usages.{decided}
-use Rattle.lsa_yard.specs.Cells.{cell_at, body_at, gap_of}
+use Rattle.lsa_store.specs.Usage.{Usage}
+use Rattle.lsa_store.specs.Room.{free_count}
+use Rattle.lsa_store.specs.Usages.{decided}
+use Rattle.lsa_store.specs.Cells.{cell_at, body_at, gap_of}
 use Rattle.lsa_store.specs.declared.place.Ref.{Ref}
 use Rattle.lsa_store.specs.Objects.{cells_of, body_in, word_in, rounded_size, IsChangedIn}
 use Rattle.lsa_store.specs.Stock.{IsGivenBack}

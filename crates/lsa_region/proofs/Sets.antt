@@ -6,9 +6,9 @@ use Rattle.std.proofs.Math.ListN.{set}
 use Rattle.std.proofs.lemmas.List.{length-set, get_or-set_same, get_or-set_other}
 use Rattle.lsa_kinds.specs.declared.kind.Kind.{Kind}
 use Rattle.lsa_kinds.specs.Kinds.{links_of}
-use Rattle.lsa_pool.specs.laws.Usages.{decided}
-use Rattle.lsa_yard.specs.Cells.{Cell, size_of, with_link}
-use Rattle.lsa_yard.specs.laws.Changes.{replaced-sums}
+use Rattle.lsa_store.specs.Usages.{decided}
+use Rattle.lsa_store.specs.Cells.{Cell, size_of, with_link}
+use Rattle.lsa_store.specs.Changes.{replaced-sums}
 use Rattle.lsa_store.specs.declared.place.Ref.{Ref}
 use Rattle.lsa_store.specs.Objects.{cells_of, cell_in, body_in, one_if_live, live_count, IsChangedIn}
 use Rattle.lsa_store.specs.Stored.{Stored, IsStored}

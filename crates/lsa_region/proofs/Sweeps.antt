@@ -6,12 +6,12 @@ use Rattle.std.proofs.Math.ListN.{set}
 use Rattle.std.proofs.lemmas.List.{get_or-set_same, get_or-set_other}
 use Rattle.lsa_kinds.specs.declared.kind.Kind.{Kind}
 use Rattle.lsa_kinds.specs.Kinds.{links_of}
-use Rattle.lsa_pool.specs.declared.State.TheVariants.{Closed}
-use Rattle.lsa_pool.specs.Room.{usage_of}
-use Rattle.lsa_pool.specs.laws.Usages.{decided}
-use Rattle.lsa_yard.specs.Cells.{Cell, size_of, extent, cell_at, body_of, body_at}
-use Rattle.lsa_yard.specs.laws.Reading.{size-least}
-use Rattle.lsa_yard.specs.laws.Changes.{at-within, at-next, at-apart}
+use Rattle.lsa_store.specs.State.TheVariants.{Closed}
+use Rattle.lsa_store.specs.Room.{usage_of}
+use Rattle.lsa_store.specs.Usages.{decided}
+use Rattle.lsa_store.specs.Cells.{Cell, size_of, extent, cell_at, body_of, body_at}
+use Rattle.lsa_store.specs.Reading.{size-least}
+use Rattle.lsa_store.specs.Changes.{at-within, at-next, at-apart}
 use Rattle.lsa_store.specs.declared.place.Ref.{Ref}
 use Rattle.lsa_store.specs.Objects.{cells_of, cell_in, body_in, word_of, word_in, link_count, live_size, one_if_live, live_in, live_count}
 use Rattle.lsa_store.specs.laws.Places.{ref-equal}

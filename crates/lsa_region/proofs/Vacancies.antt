@@ -4,7 +4,7 @@ use Rattle.std.specs.Prelude.{count_by, is_some}
 use Rattle.std.proofs.Math.ListN.{set}
 use Rattle.std.proofs.lemmas.List.{length-set, get_or-set_other}
 use Rattle.std.proofs.lemmas.List.Sums.{sum_by-set, sum_by-cons, count_by-le-length}
-use Rattle.lsa_pool.specs.laws.Usages.{set_elim}
+use Rattle.lsa_store.specs.Usages.{set_elim}
 use Rattle.lsa_region.specs.Layout.{IsVacancy}
 
 pub there : {X : Type 0} (xs : List (Option X)) (n : ℕ) (x : X) → get_or xs n None ≡ Some x → n < length xs

@@ -1,7 +1,7 @@
 -- Ends, and what each of them names.
 use Rattle.std.specs.Prelude.{◌≡◌, ◌≢◌, ℕ, ◌+◌, ◌<◌, Bool, false, ◌&&◌, nat_eq, max, List, [], ◌∷◌, length, slice_index_or, cond, count_by, is_some, Option, Some, None, IsSomeAnd}
 use Rattle.lsa_kinds.specs.Kinds.{links_of}
-use Rattle.lsa_yard.specs.Cells.{Cell}
+use Rattle.lsa_store.specs.Cells.{Cell}
 use Rattle.lsa_store.specs.declared.place.Ref.{Ref}
 use Rattle.lsa_store.specs.Objects.{body_in, word_in}
 use Rattle.lsa_region.specs.declared.end.End.{End}

@@ -5,3 +5,7 @@ pub mod Paired
 pub mod Region
 pub mod laws
 pub mod calls
+pub use Rattle.lsa_store.specs.declared.place.Ref
+pub use Rattle.lsa_store.specs.Objects
+pub use Rattle.lsa_store.specs.Stock
+pub use Rattle.lsa_store.specs.laws.Sparse

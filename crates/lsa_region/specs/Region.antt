@@ -3,10 +3,10 @@ use Rattle.std.specs.Prelude.{◌≡◌, ◌≢◌, ℕ, ◌+◌, ◌-◌, ◌^�
 use Rattle.std.specs.Option.{option_map}
 use Rattle.lsa_kinds.specs.declared.kind.Kind.{Kind}
 use Rattle.lsa_kinds.specs.Kinds.{links_of}
-use Rattle.lsa_pool.specs.declared.Usage.{Usage}
-use Rattle.lsa_pool.specs.declared.State.TheVariants.{Free}
-use Rattle.lsa_pool.specs.Room.{nothing, usage_of, free_count, live_sum}
-use Rattle.lsa_yard.specs.Cells.{Cell}
+use Rattle.lsa_store.specs.Usage.{Usage}
+use Rattle.lsa_store.specs.State.TheVariants.{Free}
+use Rattle.lsa_store.specs.Room.{nothing, usage_of, free_count, live_sum}
+use Rattle.lsa_store.specs.Cells.{Cell}
 use Rattle.lsa_store.specs.declared.place.Ref.{Ref}
 use Rattle.lsa_store.specs.Objects.{cells_of, body_in, live_in, live_count, object_count}
 use Rattle.lsa_region.specs.declared.end.Root.{Root}

@@ -3,7 +3,7 @@ ghost use Rattle.std.specs.Prelude.{◌≡◌, ℕ, ◌+◌, ◌^◌, ◌<◌, �
 ghost use Rattle.lsa_kinds.specs.declared.kind.Kind.{Kind};
 ghost use Rattle.lsa_kinds.specs.Kinds.{links_of};
 ghost use Rattle.lsa_kinds.specs.Fields.{spelled, IsPut};
-ghost use Rattle.lsa_segment.specs.Bytes.{overwritten};
+ghost use Rattle.lsa_store.specs.Bytes.{overwritten};
 ghost use Rattle.lsa_store.specs.declared.place.Ref.{Ref};
 ghost use Rattle.lsa_region.specs.declared.end.End.{End};
 ghost use Rattle.lsa_region.specs.declared.end.End.TheVariants.{Obj};

@@ -1,9 +1,9 @@
 //! Objects that move: each is made again elsewhere, its links go there one by one, and it is freed.
 ghost use Rattle.std.specs.Prelude.{◌≡◌, ◌≢◌, ℕ, ◌+◌, ◌<◌, ◌≤◌, ◌/◌, length, Some, None, IsSome, IsSomeAnd};
 ghost use Rattle.lsa_kinds.specs.Kinds.{links_of};
-ghost use Rattle.lsa_pool.specs.declared.State.TheVariants.{Closed};
-ghost use Rattle.lsa_pool.specs.Room.{nothing, usage_of, free_count, live_sum, spare_of};
-ghost use Rattle.lsa_yard.specs.Cells.{extent};
+ghost use Rattle.lsa_store.specs.State.TheVariants.{Closed};
+ghost use Rattle.lsa_store.specs.Room.{nothing, usage_of, free_count, live_sum, spare_of};
+ghost use Rattle.lsa_store.specs.Cells.{extent};
 ghost use Rattle.lsa_store.specs.declared.place.Ref.{Ref as Name};
 ghost use Rattle.lsa_store.specs.Objects.{cells_of, cell_in, body_in, live_count};
 ghost use Rattle.lsa_store.specs.Stock.{stock_of, sparse_of};

@@ -2,10 +2,10 @@
 ghost use Rattle.std.specs.Prelude.{◌≡◌, ◌≢◌, ℕ, ◌+◌, ◌-◌, ◌*◌, ◌/◌, ◌%◌, ◌^◌, ◌<◌, ◌≤◌, [], true, false, length, replicate, slice_index_or, Option, Some, None, IsSome, IsSomeAnd, IfOk, OnErr, List, min, count_by, is_some};
 ghost use Rattle.lsa_store.specs.declared.place.Ref.{Ref as Name};
 ghost use Rattle.lsa_region.specs.declared.end.Root.{Root as Slot};
-ghost use Rattle.lsa_pool.specs.Account.{IsSound};
-ghost use Rattle.lsa_pool.specs.Room.{active_of, free_count, live_sum, spare_of};
+ghost use Rattle.lsa_store.specs.Account.{IsSound};
+ghost use Rattle.lsa_store.specs.Room.{active_of, free_count, live_sum, spare_of};
 ghost use Rattle.lsa_kinds.specs.Fields.{spelled, IsPut};
-ghost use Rattle.lsa_segment.specs.Bytes.{overwritten};
+ghost use Rattle.lsa_store.specs.Bytes.{overwritten};
 ghost use Rattle.lsa_store.specs.Objects.{cells_of, rounded_size};
 ghost use Rattle.lsa_store.specs.Stock.{sparse_of};
 ghost use Rattle.lsa_region.specs.Paired.{IsTied, IsParted, IsExchanged};

@@ -1,6 +1,6 @@
 -- Balanced trees: how deep, by the balance of each object.
 use Rattle.std.specs.Prelude.{◌≡◌, ◌⊎◌, ℕ, suc, ◌+◌, List, [], ◌∷◌}
-use Rattle.lsa_store.specs.declared.place.Ref.{Ref}
+use Rattle.lsa_path.specs.Ref.{Ref}
 use Rattle.lsa_shape.specs.declared.flank.Flank.{Flank}
 use Rattle.lsa_shape.specs.declared.flank.Flank.TheVariants.{Low}
 use Rattle.lsa_shape.specs.Flanks.{near_heavy, far_heavy}

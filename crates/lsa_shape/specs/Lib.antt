@@ -4,3 +4,8 @@ pub mod Levels
 pub mod Readings
 pub mod Shapes
 pub mod Ways
+pub use Rattle.lsa_path.specs.Path
+pub use Rattle.lsa_path.specs.Roles
+pub use Rattle.lsa_path.specs.laws.Members
+pub use Rattle.lsa_path.specs.laws.Paths
+pub use Rattle.lsa_path.specs.laws.Renamed

@@ -1,8 +1,8 @@
 -- What links say of a tree: its shape, read downward, and the way upward.
 use Rattle.std.specs.Prelude.{◌≡◌, ◌⊎◌, ℕ, zero, suc, nat_eq, cond, List, [], ◌∷◌, Option, Some, None}
-use Rattle.lsa_store.specs.declared.place.Ref.{Ref}
-use Rattle.lsa_region.specs.declared.end.End.{End}
-use Rattle.lsa_region.specs.declared.end.End.TheVariants.{Obj, Slot}
+use Rattle.lsa_path.specs.Ref.{Ref}
+use Rattle.lsa_path.specs.End.{End}
+use Rattle.lsa_path.specs.End.TheVariants.{Obj, Slot}
 use Rattle.lsa_path.specs.Path.{entered}
 use Rattle.lsa_shape.specs.Shapes.{TreeShape, Leaf, Node}
 use Rattle.lsa_shape.specs.Ways.{Fork, ForkAt}

@@ -1,8 +1,8 @@
 -- Trees of objects, and where they hang, over any way in which ends name ends. An object is entered by its link 2; its link 3 leads to those before it, its link 4 to those behind it.
 use Rattle.std.specs.Prelude.{◌≡◌, ◌≢◌, ◌⊎◌, List, [], ◌∷◌, ◌++◌, Option, Some, None}
-use Rattle.lsa_store.specs.declared.place.Ref.{Ref}
-use Rattle.lsa_region.specs.declared.end.End.{End}
-use Rattle.lsa_region.specs.declared.end.End.TheVariants.{Obj}
+use Rattle.lsa_path.specs.Ref.{Ref}
+use Rattle.lsa_path.specs.End.{End}
+use Rattle.lsa_path.specs.End.TheVariants.{Obj}
 use Rattle.lsa_shape.specs.declared.flank.Flank.{Flank}
 use Rattle.lsa_shape.specs.declared.flank.Flank.TheVariants.{Low, High}
 

@@ -1,8 +1,8 @@
 -- A place in a tree: the way from there to the top.
 use Rattle.std.specs.Prelude.{◌≡◌, ◌⊎◌, List, [], ◌∷◌, ◌++◌}
-use Rattle.lsa_store.specs.declared.place.Ref.{Ref}
-use Rattle.lsa_region.specs.declared.end.End.{End}
-use Rattle.lsa_region.specs.declared.end.End.TheVariants.{Obj}
+use Rattle.lsa_path.specs.Ref.{Ref}
+use Rattle.lsa_path.specs.End.{End}
+use Rattle.lsa_path.specs.End.TheVariants.{Obj}
 use Rattle.lsa_shape.specs.declared.flank.Flank.{Flank}
 use Rattle.lsa_shape.specs.declared.flank.Flank.TheVariants.{Low, High}
 use Rattle.lsa_shape.specs.Flanks.{near_link}

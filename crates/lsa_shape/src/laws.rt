@@ -1,10 +1,10 @@
 //! The laws of trees along links, each the contract of a function that does nothing.
 ghost use Rattle.std.specs.Prelude.{◌≡◌, ◌≢◌, ◌⊎◌, ℕ, ◌+◌, ◌*◌, ◌^◌, ◌<◌, ◌≤◌, List, ◌++◌, length, map, Option, Contains, AllPairs};
 ghost use Rattle.std.specs.Option.{option_map};
-ghost use Rattle.lsa_store.specs.declared.place.Ref.{Ref};
-ghost use Rattle.lsa_region.specs.declared.end.End.{End};
-ghost use Rattle.lsa_region.specs.declared.end.End.TheVariants.{Obj};
-ghost use Rattle.lsa_region.specs.Paired.{WellPaired, IsExchanged};
+ghost use Rattle.lsa_path.specs.Ref.{Ref};
+ghost use Rattle.lsa_path.specs.End.{End};
+ghost use Rattle.lsa_path.specs.End.TheVariants.{Obj};
+ghost use Rattle.lsa_path.specs.Paired.{WellPaired, IsExchanged};
 ghost use Rattle.lsa_shape.specs.declared.flank.Flank.{Flank};
 ghost use Rattle.lsa_shape.specs.Flanks.{near_link, far_link};
 ghost use Rattle.lsa_shape.specs.Shapes.{TreeShape, Node, inorder, IsIn, HangsAt, IsOff, IsClearOf, StaysBeyond, node_on, shape_by};

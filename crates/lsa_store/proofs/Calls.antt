@@ -9,7 +9,7 @@ use Rattle.lsa_kinds.specs.declared.kind.Kind.{Kind}
 use Rattle.lsa_kinds.specs.Kinds.{links_of, up8}
 use Rattle.lsa_kinds.specs.Fields.{spelled}
 use Rattle.lsa_kinds.specs.laws.Fields.{length-spelled}
-use Rattle.lsa_segment.specs.Bytes.{overwritten}
+use Rattle.lsa_yard.specs.Bytes.{overwritten}
 use Rattle.lsa_pool.specs.declared.Usage.{Usage}
 use Rattle.lsa_pool.specs.declared.State.TheVariants.{Closed}
 use Rattle.lsa_pool.specs.Room.{nothing, usage_of, free_count, live_sum, active_of, active_room}

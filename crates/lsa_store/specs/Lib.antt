@@ -2,3 +2,12 @@ pub mod Objects
 pub mod Stock
 pub mod Stored
 pub mod laws
+pub use Rattle.lsa_yard.specs.Bytes
+pub use Rattle.lsa_yard.specs.Cells
+pub use Rattle.lsa_yard.specs.laws.Reading
+pub use Rattle.lsa_yard.specs.laws.Changes
+pub use Rattle.lsa_pool.specs.Account
+pub use Rattle.lsa_pool.specs.Room
+pub use Rattle.lsa_pool.specs.declared.State
+pub use Rattle.lsa_pool.specs.declared.Usage
+pub use Rattle.lsa_pool.specs.laws.Usages

@@ -3,7 +3,7 @@ ghost use Rattle.std.specs.Prelude.{◌≡◌, ◌≢◌, ℕ, ◌+◌, ◌*◌,
 ghost use Rattle.std.specs.Option.{option_map_or};
 ghost use Rattle.lsa_kinds.specs.declared.kind.Kind.{Kind};
 ghost use Rattle.lsa_kinds.specs.Kinds.{links_of};
-ghost use Rattle.lsa_segment.specs.Bytes.{overwritten};
+ghost use Rattle.lsa_yard.specs.Bytes.{overwritten};
 ghost use Rattle.lsa_pool.specs.declared.Usage.{Usage};
 ghost use Rattle.lsa_pool.specs.declared.State.TheVariants.{Closed};
 ghost use Rattle.lsa_pool.specs.Room.{usage_of, live_sum};

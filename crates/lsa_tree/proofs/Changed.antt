@@ -7,12 +7,12 @@ use Rattle.rc_position.specs.declared.positions.Pos.{Pos}
 use Rattle.lsa_kinds.specs.declared.kind.Kind.{Kind}
 use Rattle.lsa_kinds.specs.declared.kind.Kind.TheVariants.{Version}
 use Rattle.lsa_kinds.specs.Fields.{number_at}
-use Rattle.lsa_store.specs.declared.place.Ref.{Ref}
+use Rattle.lsa_region.specs.Ref.{Ref}
 use Rattle.lsa_region.specs.declared.end.End.{End}
 use Rattle.lsa_region.specs.declared.end.End.TheVariants.{Obj, Slot}
 use Rattle.lsa_region.specs.Region.{View, body, link_of, SameObjects}
 use Rattle.lsa_region.specs.laws.Refs.{refs_decided}
-use Rattle.lsa_path.specs.laws.Members.{member-cases, member-first, member-later}
+use Rattle.lsa_shape.specs.Members.{member-cases, member-first, member-later}
 use Rattle.lsa_shape.specs.Shapes.{StaysBeyond}
 use Rattle.lsa_shape.specs.laws.Hanging.{field-off}
 use Rattle.lsa_tree.specs.declared.tree.Tree.{Tree}

@@ -3,13 +3,13 @@ use Rattle.std.proofs.Common.{◌≡◌, ◌≢◌, ℕ, zero, suc, ◌≤◌, �
 use Rattle.std.specs.Prelude.{IsSomeAnd, Contains}
 use Rattle.std.specs.Option.{option_map}
 use Rattle.rc_position.specs.declared.positions.Pos.{Pos}
-use Rattle.lsa_store.specs.declared.place.Ref.{Ref}
+use Rattle.lsa_region.specs.Ref.{Ref}
 use Rattle.lsa_region.specs.declared.end.End.{End}
 use Rattle.lsa_region.specs.declared.end.End.TheVariants.{Obj, Slot}
 use Rattle.lsa_region.specs.Ends.{swapped_ref}
 use Rattle.lsa_region.specs.Region.{View, body, link_of, IsWell}
 use Rattle.lsa_region.specs.laws.Refs.{refs_decided, swap-here, swap-there, swap-else}
-use Rattle.lsa_path.specs.laws.Members.{member-cases, member-first, member-later, member-here, map-split, once-split}
+use Rattle.lsa_shape.specs.Members.{member-cases, member-first, member-later, member-here, map-split, once-split}
 use Rattle.lsa_shape.specs.Shapes.{TreeShape, IsIn, HangsAt, IsOff, shape_by}
 use Rattle.lsa_shape.specs.Levels.{IsLevel}
 use Rattle.lsa_shape.specs.laws.Depths.{level-mapped, level-small}

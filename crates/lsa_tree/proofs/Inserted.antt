@@ -3,13 +3,13 @@ use Rattle.std.proofs.Common.{◌≡◌, ◌≢◌, ℕ, ◌≤◌, List, ◌∷
 use Rattle.std.specs.Prelude.{IsSomeAnd, Contains}
 use Rattle.std.proofs.lemmas.List.Elements.{Contains-append_left, Contains-append_right, Contains-append_cases}
 use Rattle.rc_position.specs.declared.positions.Pos.{Pos}
-use Rattle.lsa_store.specs.declared.place.Ref.{Ref}
+use Rattle.lsa_region.specs.Ref.{Ref}
 use Rattle.lsa_region.specs.declared.end.End.{End}
 use Rattle.lsa_region.specs.declared.end.End.TheVariants.{Obj}
 use Rattle.lsa_region.specs.Paired.{IsTied}
 use Rattle.lsa_region.specs.Region.{View, body, link_of, IsEnd, IsWell, SameObjects}
-use Rattle.lsa_path.specs.laws.Members.{member-cases, member-later, member-here}
-use Rattle.lsa_path.specs.laws.Paths.{same_object, same_field}
+use Rattle.lsa_shape.specs.Members.{member-cases, member-later, member-here}
+use Rattle.lsa_shape.specs.Paths.{same_object, same_field}
 use Rattle.lsa_shape.specs.Shapes.{Leaf, Node, IsIn, HangsAt, IsOff, StaysBeyond}
 use Rattle.lsa_shape.specs.Ways.{Fork, plug, hole, IsAround}
 use Rattle.lsa_shape.specs.laws.Depths.{around-kept}

@@ -4,14 +4,14 @@ use Rattle.std.specs.Prelude.{IsSomeAnd, Contains, AllPairs, sum_by}
 use Rattle.std.proofs.lemmas.List.{append_assoc}
 use Rattle.std.proofs.lemmas.List.Sums.{sum_by-cons}
 use Rattle.lsa_kinds.specs.declared.kind.Kind.{Kind}
-use Rattle.lsa_store.specs.declared.place.Ref.{Ref}
+use Rattle.lsa_region.specs.Ref.{Ref}
 use Rattle.lsa_region.specs.declared.end.End.{End}
 use Rattle.lsa_region.specs.declared.end.End.TheVariants.{Obj, Slot}
 use Rattle.lsa_region.specs.Layout.{object_extent}
 use Rattle.lsa_region.specs.Region.{View, body, link_of, IsEnd, IsWell, IsSummed, live_bytes}
 use Rattle.lsa_region.specs.laws.Sizes.{rounded_32}
-use Rattle.lsa_path.specs.Path.{entered}
-use Rattle.lsa_path.specs.laws.Members.{member-first, member-later, member-here, once-split}
+use Rattle.lsa_shape.specs.Path.{entered}
+use Rattle.lsa_shape.specs.Members.{member-first, member-later, member-here, once-split}
 use Rattle.lsa_shape.specs.declared.flank.Flank.{Flank}
 use Rattle.lsa_shape.specs.declared.flank.Flank.TheVariants.{Low, High}
 use Rattle.lsa_shape.specs.Shapes.{TreeShape, Leaf, Node, inorder, IsIn, HangsAt, IsClearOf, node_on}

@@ -4,14 +4,14 @@ use Rattle.std.specs.Prelude.{Contains, AllPairs}
 use Rattle.std.specs.Option.{option_map}
 use Rattle.std.proofs.lemmas.List.{append_assoc, map-append}
 use Rattle.std.proofs.lemmas.List.Elements.{Contains-append_left, Contains-append_right, Contains-append_cases}
-use Rattle.lsa_store.specs.declared.place.Ref.{Ref}
+use Rattle.lsa_region.specs.Ref.{Ref}
 use Rattle.lsa_region.specs.declared.end.End.{End}
 use Rattle.lsa_region.specs.declared.end.End.TheVariants.{Obj}
 use Rattle.lsa_region.specs.Ends.{swapped_ref}
 use Rattle.lsa_region.specs.Region.{View, body, link_of, IsWell}
 use Rattle.lsa_region.specs.laws.Refs.{swap-here, swap-there, swap-else}
-use Rattle.lsa_path.specs.Path.{entered}
-use Rattle.lsa_path.specs.laws.Members.{member-cases, member-first, member-later, member-here, map-members, once-split}
+use Rattle.lsa_shape.specs.Path.{entered}
+use Rattle.lsa_shape.specs.Members.{member-cases, member-first, member-later, member-here, map-members, once-split}
 use Rattle.lsa_shape.specs.declared.flank.Flank.{Flank}
 use Rattle.lsa_shape.specs.declared.flank.Flank.TheVariants.{Low, High}
 use Rattle.lsa_shape.specs.Shapes.{TreeShape, Leaf, Node, inorder, IsIn, HangsAt, node_on, shape_by}

@@ -1,11 +1,11 @@
 -- An entry taken out of its tree.
 use Rattle.std.proofs.Common.{◌≡◌, ◌≢◌, ℕ, suc, List, ◌∷◌, ◌++◌, None, sym, ap, ◌∙◌, subst}
 use Rattle.std.specs.Prelude.{IsSomeAnd, Contains}
-use Rattle.lsa_store.specs.declared.place.Ref.{Ref}
+use Rattle.lsa_region.specs.Ref.{Ref}
 use Rattle.lsa_region.specs.declared.end.End.{End}
 use Rattle.lsa_region.specs.declared.end.End.TheVariants.{Obj}
 use Rattle.lsa_region.specs.Region.{View, body, link_of, IsWell}
-use Rattle.lsa_path.specs.laws.Members.{member-here, once-split}
+use Rattle.lsa_shape.specs.Members.{member-here, once-split}
 use Rattle.lsa_shape.specs.Shapes.{TreeShape, IsIn}
 use Rattle.lsa_shape.specs.Ways.{Fork, plug}
 use Rattle.lsa_shape.specs.laws.Depths.{level-kept, around-kept}

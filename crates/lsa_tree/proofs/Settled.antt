@@ -1,6 +1,6 @@
 -- Steps up until the tree is balanced.
 use Rattle.std.proofs.Common.{◌≡◌, ℕ, suc, ◌<◌, List, length, Some, None, refl, subst, arith}
-use Rattle.lsa_store.specs.declared.place.Ref.{Ref}
+use Rattle.lsa_region.specs.Ref.{Ref}
 use Rattle.lsa_region.specs.declared.end.End.{End}
 use Rattle.lsa_region.specs.Region.{View, link_of, IsWell, IsSummed, live_bytes}
 use Rattle.lsa_shape.specs.Shapes.{TreeShape, IsIn}

@@ -2,14 +2,14 @@
 use Rattle.std.proofs.Common.{◌≡◌, ◌≢◌, ℕ, suc, ◌≤◌, ◌++◌, Option, Some, None, IsSome, is_some, inl, inr, refl, sym, ap, ◌∙◌, subst, arith}
 use Rattle.std.specs.Prelude.{Contains}
 use Rattle.std.specs.Option.{option_map}
-use Rattle.lsa_store.specs.declared.place.Ref.{Ref}
+use Rattle.lsa_region.specs.Ref.{Ref}
 use Rattle.lsa_region.specs.declared.end.End.{End}
 use Rattle.lsa_region.specs.declared.end.End.TheVariants.{Obj}
 use Rattle.lsa_region.specs.Ends.{swapped}
 use Rattle.lsa_region.specs.Paired.{IsExchanged, IsParted}
 use Rattle.lsa_region.specs.Region.{View, body, link_of, IsEnd, IsWell, SameObjects}
 use Rattle.lsa_region.specs.laws.Exchanges.{swap-other, swap-second}
-use Rattle.lsa_path.specs.laws.Paths.{same_object, same_field, same_some}
+use Rattle.lsa_shape.specs.Paths.{same_object, same_field, same_some}
 use Rattle.lsa_shape.specs.declared.flank.Flank.{Flank}
 use Rattle.lsa_shape.specs.Flanks.{near_link, far_link}
 use Rattle.lsa_shape.specs.Shapes.{TreeShape, Leaf, inorder, IsIn, HangsAt, IsClearOf, StaysBeyond, node_on}

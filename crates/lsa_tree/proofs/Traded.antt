@@ -2,7 +2,7 @@
 use Rattle.std.proofs.Common.{◌≡◌, ◌≢◌, ℕ, zero, suc, ◌≤◌, [], ◌∷◌, Option, Some, None, inl, inr, refl, sym, ap, ◌∙◌, subst, arith}
 use Rattle.std.specs.Option.{option_map}
 use Rattle.std.specs.Prelude.{Contains}
-use Rattle.lsa_store.specs.declared.place.Ref.{Ref}
+use Rattle.lsa_region.specs.Ref.{Ref}
 use Rattle.lsa_region.specs.declared.end.End.{End}
 use Rattle.lsa_region.specs.declared.end.End.TheVariants.{Obj}
 use Rattle.lsa_region.specs.Ends.{swapped, swapped_ref}
@@ -10,8 +10,8 @@ use Rattle.lsa_region.specs.Paired.{IsExchanged}
 use Rattle.lsa_region.specs.Region.{View, link_of, SameObjects}
 use Rattle.lsa_region.specs.laws.Exchanges.{swap-first, swap-second, swap-other, at_end, swap_twice}
 use Rattle.lsa_region.specs.laws.Refs.{refs_decided, swap-here, swap-there, swap-else}
-use Rattle.lsa_path.specs.laws.Members.{member-cases, member-first, member-later}
-use Rattle.lsa_path.specs.laws.Paths.{same_field, same_object}
+use Rattle.lsa_shape.specs.Members.{member-cases, member-first, member-later}
+use Rattle.lsa_shape.specs.Paths.{same_field, same_object}
 use Rattle.lsa_shape.specs.declared.flank.Flank.{Flank}
 use Rattle.lsa_shape.specs.Flanks.{near_link, far_link}
 use Rattle.lsa_tree.specs.Entries.{balance_in, balance_of}

@@ -1,11 +1,11 @@
 -- A tree after a rotation, and after balances were written.
 use Rattle.std.proofs.Common.{◌≡◌, ◌≢◌, ℕ, List, inl, inr, refl, sym, ◌∙◌, subst, arith}
 use Rattle.std.specs.Prelude.{Contains}
-use Rattle.lsa_store.specs.declared.place.Ref.{Ref}
+use Rattle.lsa_region.specs.Ref.{Ref}
 use Rattle.lsa_region.specs.declared.end.End.{End}
 use Rattle.lsa_region.specs.declared.end.End.TheVariants.{Obj}
 use Rattle.lsa_region.specs.Region.{View, link_of, IsEnd, IsWell, SameObjects}
-use Rattle.lsa_path.specs.laws.Paths.{same_object}
+use Rattle.lsa_shape.specs.Paths.{same_object}
 use Rattle.lsa_shape.specs.declared.flank.Flank.{Flank}
 use Rattle.lsa_shape.specs.Flanks.{near_link, far_link}
 use Rattle.lsa_shape.specs.Shapes.{TreeShape, inorder, IsIn, HangsAt, IsClearOf, StaysBeyond, node_on}

@@ -8,7 +8,7 @@ use Rattle.rc_rowcode.specs.Spelling.{pos_code, IsPos}
 use Rattle.lsa_kinds.specs.declared.kind.Kind.{Kind}
 use Rattle.lsa_kinds.specs.declared.kind.Kind.TheVariants.{RowEntry, Dummy}
 use Rattle.lsa_kinds.specs.Fields.{number_at}
-use Rattle.lsa_store.specs.declared.place.Ref.{Ref}
+use Rattle.lsa_region.specs.Ref.{Ref}
 use Rattle.lsa_region.specs.Region.{View, body}
 
 -- a row entry or a dummy

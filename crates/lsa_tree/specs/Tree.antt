@@ -1,12 +1,12 @@
 -- The entries of a version in order. How they are linked is known to this crate alone: its users go by the laws.
 use Rattle.std.specs.Prelude.{◌≡◌, ◌≢◌, ◌⊎◌, ℕ, List, None, IsSomeAnd, Contains}
 use Rattle.lsa_kinds.specs.declared.kind.Kind.TheVariants.{Version}
-use Rattle.lsa_store.specs.declared.place.Ref.{Ref}
+use Rattle.lsa_region.specs.Ref.{Ref}
 use Rattle.lsa_region.specs.declared.end.End.{End}
 use Rattle.lsa_region.specs.declared.end.End.TheVariants.{Obj, Slot}
 use Rattle.lsa_region.specs.Ends.{end_as}
 use Rattle.lsa_region.specs.Region.{View, body, link_of, IsEnd, location_of, slots_of}
-use Rattle.lsa_path.specs.Roles.{Role, role_at, Parent, Left, Right, Entries}
+use Rattle.lsa_shape.specs.Roles.{Role, role_at, Parent, Left, Right, Entries}
 use Rattle.lsa_shape.specs.Shapes.{TreeShape, HangsAt, inorder}
 use Rattle.lsa_shape.specs.Levels.{IsLevel}
 use Rattle.lsa_tree.specs.declared.tree.Tree.{Tree}

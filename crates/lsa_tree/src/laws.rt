@@ -5,7 +5,7 @@ ghost use Rattle.rc_position.specs.declared.positions.Pos.{Pos};
 ghost use Rattle.lsa_kinds.specs.declared.kind.Kind.{Kind};
 ghost use Rattle.lsa_kinds.specs.declared.kind.Kind.TheVariants.{Version};
 ghost use Rattle.lsa_kinds.specs.Fields.{number_at, IsApart, IsPut};
-ghost use Rattle.lsa_store.specs.declared.place.Ref.{Ref};
+ghost use Rattle.lsa_region.specs.Ref.{Ref};
 ghost use Rattle.lsa_region.specs.declared.end.End.{End};
 ghost use Rattle.lsa_region.specs.declared.end.End.TheVariants.{Obj};
 ghost use Rattle.lsa_region.specs.Ends.{named_as};

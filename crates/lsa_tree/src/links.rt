@@ -2,7 +2,7 @@
 ghost use Rattle.std.specs.Prelude.{◌≡◌, ◌≢◌, ◌<◌, Some, IsSome};
 ghost use Rattle.lsa_region.specs.declared.end.End.TheVariants.{Obj};
 ghost use Rattle.lsa_region.specs.Region.{body, link_of, IsEnd, IsWell, SameObjects};
-ghost use Rattle.lsa_path.specs.Path.{entered};
+ghost use Rattle.lsa_shape.specs.Path.{entered};
 ghost use Rattle.lsa_shape.specs.Flanks.{near_link, far_link};
 ghost use Rattle.lsa_tree.specs.Entries.{balance_of};
 ghost use Rattle.lsa_tree.specs.calls.Placing.{IsEntryBody, IsRebalanced, IsRotated, IsTraded, owner_of};

@@ -1,6 +1,6 @@
 //! An entry taken out of its tree.
 ghost use Rattle.std.specs.Prelude.{◌≡◌, ◌++◌, ◌∷◌, ℕ, List};
-ghost use Rattle.lsa_store.specs.declared.place.Ref.{Ref as Name};
+ghost use Rattle.lsa_region.specs.Ref.{Ref as Name};
 ghost use Rattle.lsa_region.specs.Region.{IsWell};
 ghost use Rattle.lsa_shape.specs.Shapes.{TreeShape};
 ghost use Rattle.lsa_shape.specs.Ways.{Fork};

@@ -3,7 +3,7 @@ ghost use Rattle.std.specs.Prelude.{◌≡◌, ◌++◌, ℕ, List};
 ghost use Rattle.rc_position.specs.declared.positions.Pos.{Pos};
 ghost use Rattle.rc_position.specs.Position.{pos_cmp};
 ghost use Rattle.rc_rowcode.specs.Spelling.{pos_code, IsPos};
-ghost use Rattle.lsa_store.specs.declared.place.Ref.{Ref as Name};
+ghost use Rattle.lsa_region.specs.Ref.{Ref as Name};
 ghost use Rattle.lsa_region.specs.Region.{View};
 ghost use Rattle.lsa_shape.specs.Ways.{Fork};
 ghost use Rattle.lsa_tree.specs.Entries.{IsEntryAtPosition, BelongsBetween};

@@ -2,7 +2,7 @@
 ghost use Rattle.std.specs.Prelude.{◌≡◌, ◌≢◌, ◌+◌, ◌*◌, ◌^◌, ◌<◌, ◌≤◌, ℕ, List, ◌∷◌, ◌++◌, length, Contains};
 ghost use Rattle.rc_position.specs.declared.positions.Pos.{Pos as Position};
 ghost use Rattle.rc_position.specs.Position.{row_pos};
-ghost use Rattle.lsa_store.specs.declared.place.Ref.{Ref as Name};
+ghost use Rattle.lsa_region.specs.Ref.{Ref as Name};
 ghost use Rattle.lsa_region.specs.declared.end.End.{End as Link};
 ghost use Rattle.lsa_region.specs.Region.{body, link_of, IsWell};
 ghost use Rattle.lsa_tree.specs.declared.tree.Tree.{Tree as Ordered};

@@ -1,6 +1,6 @@
 //! Walks along links, without comparisons: to the outermost entry below an end, and to the next one above an entry.
 ghost use Rattle.std.specs.Prelude.{◌≡◌, ◌++◌, ◌∷◌, List, Some, None};
-ghost use Rattle.lsa_store.specs.declared.place.Ref.{Ref as Name};
+ghost use Rattle.lsa_region.specs.Ref.{Ref as Name};
 ghost use Rattle.lsa_region.specs.declared.end.End.TheVariants.{Obj};
 ghost use Rattle.lsa_region.specs.Region.{link_of};
 ghost use Rattle.lsa_shape.specs.Flanks.{near_link};

@@ -1,16 +1,16 @@
 -- What the calls of a cached stream's parts do, one after another.
-use Rattle.std.specs.Prelude.{◌≡◌, ◌≤◌, ◌+◌, ⊤, ℕ, Bool, true, false, IsSome, Option, Some, None, length}
-use Rattle.std.proofs.Common.{refl, sym, ap, ◌∙◌, subst, inl, inr, arith}
-use Rattle.rc_outside.specs.Files.{Files, HoldsSameFiles}
+use Rattle.std.specs.Prelude.{◌≡◌, ⊤, ℕ, zero, suc, Bool, true, false, IsSome, Option, Some, None, is_some, length}
+use Rattle.std.proofs.Common.{refl, sym, ap, ◌∙◌, subst, inl, inr}
+use Rattle.std.specs.Option.{option_or}
 use Rattle.rc_core.specs.Chains.{IsPinned}
 use Rattle.rc_core.specs.declared.entries.ChainKind.TheVariants.{Memtable}
 use Rattle.rc_memory.specs.Memory.{HasPin, KeptChain, Memory, chain_at}
 use Rattle.rc_memory.specs.Recency.{IsRecency}
 use Rattle.rc_chain.specs.declared.chains.Snap.{Snap}
-use Rattle.rc_stream.specs.Did.{Call, InTurn}
-use Rattle.rc_stream.specs.laws.Spent.{chain-answered, chain-keeps, chain-refused}
+use Rattle.rc_stream.specs.Did.{Call, InTurn, StepsInTurn}
+use Rattle.rc_stream.specs.Stream.{Stream}
+use Rattle.rc_stream.specs.laws.Spent.{chain-keeps}
 use Rattle.rc_populate.specs.Filling.{MayFill}
-use Rattle.rc_tables.specs.Streams.{IsLazyOf, IsReady, asks_left}
 use Rattle.rc_cursor.specs.declared.readers.SnapshotReader.{SnapshotReader}
 use Rattle.rc_cursor.specs.Readers.{IsOnlyRead}
 use Rattle.rc_cursor.specs.Snapshots.{IsHeadSeen, IsReadable, Knows, kind_seen, versions_seen}
@@ -21,9 +21,10 @@ use Rattle.rc_filler.specs.Fillers.{FillerKnows, FillerKnowsStatics, IsFillerRea
 use Rattle.rc_filler.specs.Fills.{IsCacheFill, IsUsedAsBefore}
 use Rattle.rc_filler.specs.Stands.{StandsForWrites}
 use Rattle.rc_snapshots.specs.laws.Seeing.{snap-then}
-use Rattle.rc_cached.specs.Below.{DidBelow}
+use Rattle.rc_cached.specs.Below.{DidBelow, LiesBelow, MovesBelow, readings_after}
 use Rattle.rc_cached.specs.declared.fillers.StreamFiller.{StreamFiller}
-use Rattle.rc_cached.specs.declared.tables.TablesBelow.{TablesBelow}
+use Rattle.rc_cached.specs.declared.readings.Readings.{Readings}
+use Rattle.rc_cached.specs.declared.underlying.Underlying.{Underlying}
 use Rattle.rc_cached.specs.Fillers.{IsStreamFill}
 use Rattle.rc_cached.specs.Leaving.{LeavesChains}
 use Rattle.rc_cached.specs.Streams.{IsOfCached, OfCache}
@@ -53,14 +54,14 @@ fi S = record {
   fills = λ f m g n. IsStreamFill S f m g n;
 }
 
--- the tables below it
-abbrev pub be : {W D : Type 0} → (W → Option Files) → (W → D) → (W → ℕ) → OfBelow TablesBelow Memory W
-be files building asks = record {
-  ready = λ t _ store. IsReady (files store) t.tables;
-  seen = λ t _ store s. IsLazyOf (files store) t.tables s;
+-- what lies below it
+abbrev pub be : OfBelow Underlying Memory Readings
+be = record {
+  ready = λ _ _ _. ⊤;
+  seen = λ u _ w s. LiesBelow (option_or u.list w.list) s;
   ahead = λ _ _. ⊤;
-  moves = λ home store home' store'. (home ≡ home') × (files store' ≡ files store) × (building store' ≡ building store);
-  did = λ t home store _ ok t' home' store'. DidBelow files building asks ok t home store t' home' store';
+  moves = λ h w g v. MovesBelow h w g v;
+  did = λ u h w _ ok t g v. DidBelow ok u h w t g v;
 }
 
 -- ---- what is left of the chains
@@ -115,79 +116,133 @@ module _ (S : ℕ) (laws : FillLaws S) where
 same-filler : (S : ℕ) (f g : StreamFiller) (m n : Memory) → IsStreamFill S f m g n → g ≡ f
 same-filler S f g m n d = (λ i. record { filler = d.fill.same i })
 
-module _ {W D : Type 0} (S : ℕ) (files : W → Option Files) (building : W → D) (asks : W → ℕ) where
+-- ---- what a call leaves of what was read
+
+some-or : (a b : Option Stream) → is_some a ≡ true → is_some (option_or a b) ≡ true
+some-or None b e = absurd (cc)
+some-or (Some s) b e = refl
+
+none-or : (a b : Option Stream) → is_some a ≡ false → b ≡ None → is_some (option_or a b) ≡ false
+none-or None b e n = ap is_some n
+none-or (Some s) b e n = absurd (cc)
+
+none-of : (a : Option Stream) → is_some a ≡ false → a ≡ None
+none-of None e = refl
+none-of (Some s) e = absurd (cc)
+
+read-none : (a b : Option Stream) → option_or a b ≡ None → b ≡ None
+read-none None b n = n
+read-none (Some x) b n = absurd (cc)
+
+-- what was read is there still, and nothing comes to be that was not read
+kept-below : (a b c : Option Stream) (w v : Readings) → w.list ≡ b → v ≡ readings_after a b w → is_some c ≡ is_some (option_or a b) → is_some (option_or c v.list) ≡ is_some (option_or a b)
+kept-below (Some s) b c w v l e k = some-or c v.list k
+kept-below None (Some s) c w v l e k = some-or c v.list k
+kept-below None None c w v l e k = none-or c v.list k (ap (λ (x : Readings). x.list) e ∙ l)
+
+-- where something was read none is missed
+none-missed : (a b : Option Stream) (w v : Readings) → v ≡ readings_after a b w → IsSome (option_or a b) → v.missed ≡ w.missed
+none-missed (Some s) b w v e h = ap (λ (x : Readings). x.missed) e
+none-missed None (Some s) w v e h = ap (λ (x : Readings). x.missed) e
+none-missed None None w v e h = absurd (cc)
+
+-- a call that was answered missed nothing
+answered-missed : (a b : Option Stream) (w v : Readings) → v ≡ readings_after a b w → (option_or a b ≡ None → true ≡ false) → v.missed ≡ w.missed
+answered-missed (Some s) b w v e h = ap (λ (x : Readings). x.missed) e
+answered-missed None (Some s) w v e h = ap (λ (x : Readings). x.missed) e
+answered-missed None None w v e h = (let n = h refl in absurd (cc))
+
+same-begun : (a b : Option Stream) (w v : Readings) → v ≡ readings_after a b w → v.begun ≡ w.begun
+same-begun (Some s) b w v e = ap (λ (x : Readings). x.begun) e
+same-begun None (Some s) w v e = ap (λ (x : Readings). x.begun) e
+same-begun None None w v e = ap (λ (x : Readings). x.begun) e
+
+-- where nothing was read, nothing comes to be
+none-read : (a b c : Option Stream) (w v : Readings) → w.list ≡ b → v ≡ readings_after a b w → is_some c ≡ is_some (option_or a b) → option_or a b ≡ None → (c ≡ a) × (v.list ≡ None)
+none-read (Some s) b c w v l e k n = absurd (cc)
+none-read None (Some s) c w v l e k n = absurd (cc)
+none-read None None c w v l e k n = (none-of c k, ap (λ (x : Readings). x.list) e ∙ l)
+
+module _ (S : ℕ) where
   abbrev State : Type 0
-  State = SnapshotReader × TablesBelow × StreamFiller × Memory × W
+  State = SnapshotReader × Underlying × StreamFiller × Memory × Readings
 
   abbrev Step : Call → Bool → State → State → Type 0
-  Step c ok s t = ReaderCall kn (be files building asks) (fi S) c ok s t
+  Step c ok s t = ReaderCall kn be (fi S) c ok s t
 
-  -- chains, files, snapshot and filler after calls
+  -- what was read
+  abbrev pub had : State → Option Stream
+  had s = option_or s.1.list s.4.list
+
+  -- chains, snapshot, filler and readings after calls
   pub record Left (s t : State) : Type 0 where
     pub chains : LeavesChains s.3 t.3
-    pub held : HoldsSameFiles files building s.4 t.4
+    pub begun : t.4.begun ≡ s.4.begun
     pub snap : t.0.snap ≡ s.0.snap
     pub filler : t.2 ≡ s.2
+    pub kept : is_some (had t) ≡ is_some (had s)
+    pub missed : IsSome (had s) → t.4.missed ≡ s.4.missed
+    pub unread : had s ≡ None → (t.1 ≡ s.1) × (t.4.list ≡ None)
 
   module _ (laws : FillLaws S) where
     left-same : (s : State) → Left s s
-    left-same s = record { chains = leaves-same s.3; held = (refl, refl); snap = refl; filler = refl }
+    left-same s = record { chains = leaves-same s.3; begun = refl; snap = refl; filler = refl; kept = refl; missed = λ h. refl; unread = λ n. (refl, read-none s.1.list s.4.list n) }
 
     left-then : (s t u : State) → Left s t → Left t u → Left s u
-    left-then s t u a b = record { chains = leaves-then s.3 t.3 u.3 a.chains b.chains; held = (b.held.0 ∙ a.held.0, b.held.1 ∙ a.held.1); snap = b.snap ∙ a.snap; filler = b.filler ∙ a.filler }
+    left-then s t u a b = record {
+      chains = leaves-then s.3 t.3 u.3 a.chains b.chains;
+      begun = b.begun ∙ a.begun;
+      snap = b.snap ∙ a.snap;
+      filler = b.filler ∙ a.filler;
+      kept = b.kept ∙ a.kept;
+      missed = λ h. b.missed (a.kept ∙ h) ∙ a.missed h;
+      unread = λ n. (let x = a.unread n in let y = b.unread (none-of (had t) (a.kept ∙ ap is_some n)) in (y.0 ∙ x.0, y.1));
+    }
+
+    -- where what lies below, and the readings, are as they were
+    left-beside : (s t : State) → LeavesChains s.3 t.3 → t.0.snap ≡ s.0.snap → t.2 ≡ s.2 → t.1 ≡ s.1 → t.4 ≡ s.4 → Left s t
+    left-beside s t chains snap filler below readings = record {
+      chains = chains;
+      begun = ap (λ (x : Readings). x.begun) readings;
+      snap = snap;
+      filler = filler;
+      kept = λ i. is_some (option_or (below i).list (readings i).list);
+      missed = λ h. ap (λ (x : Readings). x.missed) readings;
+      unread = λ n. (below, ap (λ (x : Readings). x.list) readings ∙ read-none s.1.list s.4.list n);
+    }
 
     left-one : (c : Call) (ok : Bool) (s t : State) → Step c ok s t → Left s t
-    left-one c ok s t (inl d) = record { chains = leaves-on s.3 t.3 d.0.1.home; held = (ap files d.3, ap building d.3); snap = d.0.1.snap; filler = d.2 }
-    left-one c ok s t (inr (inl d)) = record { chains = leaves-on s.3 t.3 d.2.home; held = d.2.held; snap = ap (λ (r : SnapshotReader). r.snap) d.3; filler = d.4 }
-    left-one c ok s t (inr (inr d)) = record { chains = leaves-fill S laws s.2 t.2 s.3 t.3 d.1; held = (ap files d.4, ap building d.4); snap = ap (λ (r : SnapshotReader). r.snap) d.2; filler = same-filler S s.2 t.2 s.3 t.3 d.1 }
+    left-one c ok s t (inl d) = left-beside s t (leaves-on s.3 t.3 d.0.1.home) d.0.1.snap d.2 d.1 d.3
+    left-one c ok s t (inr (inl d)) = record {
+      chains = leaves-on s.3 t.3 d.2.home;
+      begun = same-begun s.1.list s.4.list s.4 t.4 d.2.readings;
+      snap = ap (λ (r : SnapshotReader). r.snap) d.3;
+      filler = d.4;
+      kept = kept-below s.1.list s.4.list t.1.list s.4 t.4 refl d.2.readings d.2.kept;
+      missed = none-missed s.1.list s.4.list s.4 t.4 d.2.readings;
+      unread = λ n. (let x = none-read s.1.list s.4.list t.1.list s.4 t.4 refl d.2.readings d.2.kept n in (λ i. record { list = x.0 i }, x.1));
+    }
+    left-one c ok s t (inr (inr d)) = left-beside s t (leaves-fill S laws s.2 t.2 s.3 t.3 d.1) (ap (λ (r : SnapshotReader). r.snap) d.2) (same-filler S s.2 t.2 s.3 t.3 d.1) d.3 d.4
 
     pub left-all : (c : Call) (ok : Bool) (s t : State) → InTurn (Step c) ok s t → Left s t
     left-all c ok s t d = chain-keeps (Step c) Left left-same left-then (left-one c) ok s t d
 
-    pub stays-of : (r n : OfCache) (m g : Memory) (w v : W) (s : Snap) → Left (reader_state r m w) (reader_state n g v) → IsOfCached s r → IsOfCached s n
-    stays-of r n m g w v s a of = record { snap = a.snap ∙ of.snap; filler = a.filler ∙ of.filler }
+  pub stays-of : (r n : OfCache) (m g : Memory) (w v : Readings) → Left (reader_state r m w) (reader_state n g v) → (s : Snap) → IsOfCached s r → IsOfCached s n
+  stays-of r n m g w v a s of = record { snap = a.snap ∙ of.snap; filler = a.filler ∙ of.filler }
 
-  -- ---- what is asked for
+  -- ---- what was answered missed nothing
 
-  abbrev whole : State → ℕ
-  whole s = asks s.4 + asks_left s.1.tables
+  answered-one : (c : Call) (s t : State) → Step c true s t → t.4.missed ≡ s.4.missed
+  answered-one c s t (inl d) = ap (λ (x : Readings). x.missed) d.3
+  answered-one c s t (inr (inl d)) = answered-missed s.1.list s.4.list s.4 t.4 d.2.readings d.2.refused
+  answered-one c s t (inr (inr d)) = ap (λ (x : Readings). x.missed) d.4
 
-  abbrev part : State → ℕ
-  part s = asks s.4
+  answered-many : (c : Call) (n : ℕ) (s t : State) → StepsInTurn (Step c true) n s t → t.4.missed ≡ s.4.missed
+  answered-many c zero s t e = ap (λ (x : State). x.4.missed) (sym e)
+  answered-many c (suc n) s t d = answered-many c n d.0 t d.2 ∙ answered-one c s d.0 d.1
 
-  answered : (c : Call) (s t : State) → Step c true s t → whole t ≤ whole s
-  answered c s t (inl d) = omega (arith, ap asks d.3, ap (λ (x : TablesBelow). asks_left x.tables) d.1)
-  answered c s t (inr (inl d)) = d.2.asked.sum refl
-  answered c s t (inr (inr d)) = omega (arith, ap asks d.4, ap (λ (x : TablesBelow). asks_left x.tables) d.3)
-
-  refused : (c : Call) (s t : State) → Step c false s t → part t ≤ whole s
-  refused c s t (inl d) = omega (arith, ap asks d.3)
-  refused c s t (inr (inl d)) = d.2.asked.most
-  refused c s t (inr (inr d)) = omega (arith, ap asks d.4)
-
-  pub all-answered : (c : Call) (s t : State) → InTurn (Step c) true s t → whole t ≤ whole s
-  all-answered c s t d = chain-answered (Step c) whole part (answered c) (refused c) (λ s. omega arith) s t d
-
-  pub all-refused : (c : Call) (s t : State) → InTurn (Step c) false s t → part t ≤ whole s
-  all-refused c s t d = chain-refused (Step c) whole part (answered c) (refused c) (λ s. omega arith) s t d
-
-  -- nothing is asked for once the tables were read
-  abbrev pub StaysRead : State → State → Type 0
-  StaysRead s t = IsSome s.1.tables.read → (asks t.4 ≡ asks s.4) × IsSome t.1.tables.read
-
-  read-same : (s : State) → StaysRead s s
-  read-same s h = (refl, h)
-
-  read-then : (s t u : State) → StaysRead s t → StaysRead t u → StaysRead s u
-  read-then s t u a b h = (let x = a h in let y = b x.1 in (y.0 ∙ x.0, y.1))
-
-  read-one : (c : Call) (ok : Bool) (s t : State) → Step c ok s t → StaysRead s t
-  read-one c ok s t (inl d) h = (ap asks d.3, subst (λ (x : TablesBelow). IsSome x.tables.read) (sym d.1) h)
-  read-one c ok s t (inr (inl d)) h = d.2.asked.quiet h
-  read-one c ok s t (inr (inr d)) h = (ap asks d.4, subst (λ (x : TablesBelow). IsSome x.tables.read) (sym d.3) h)
-
-  pub read-all : (c : Call) (ok : Bool) (s t : State) → InTurn (Step c) ok s t → StaysRead s t
-  read-all c ok s t d = chain-keeps (Step c) StaysRead read-same read-then (read-one c) ok s t d
+  pub answered-all : (c : Call) (s t : State) → InTurn (Step c) true s t → t.4.missed ≡ s.4.missed
+  answered-all c s t d = answered-many c d.0 s t d.1
 
 -- calls of a snapshot alone leave the chains
 home-one : (ok : Bool) (s t : SnapshotReader × Memory) → KnownStep kn.did ok s t → t.1 ≡ s.1

@@ -3,16 +3,15 @@ ghost use Rattle.std.specs.Prelude.{◌≡◌, []};
 ghost use Rattle.rc_cached.specs.Streams.{IsNewCached};
 
 use crate::fillers::StreamFiller;
-use crate::tables::TablesBelow;
+use crate::underlying::Underlying;
 use rc_cacheread::CacheReader;
 use rc_chain::Snap;
 use rc_cursor::SnapshotReader;
 use rc_position::{Key, Pos, Slice, Weight};
-use rc_tables::TableFrags;
 use std::alloc::Global;
 
-/// A partition that is in the row cache, as a stream: what a snapshot of its chain knows, and over the rest the tables, from which the snapshot is filled.
-pub type CachedStream = CacheReader<SnapshotReader, TablesBelow, StreamFiller>;
+/// A partition that is in the row cache, as a stream: what a snapshot of its chain knows, and over the rest what was read of its tables, from which the snapshot is filled.
+pub type CachedStream = CacheReader<SnapshotReader, Underlying, StreamFiller>;
 
 // A position of no components.
 fn bare(alloc: Global, weight: Weight) -> Pos
@@ -24,9 +23,9 @@ fn bare(alloc: Global, weight: Weight) -> Pos
     }
 }
 
-/// The stream of a cache chain's snapshot over the tables below it, over the whole partition and from its beginning. It takes no memory, and asks for nothing.
-pub fn cached_stream(alloc: Global, snap: Snap, tables: TableFrags) -> CachedStream
-    ensures { IsNewCached snap tables result }
+/// The stream of a cache chain's snapshot, over the whole partition and from its beginning. It takes no memory, and nothing was handed to it yet of what its tables say.
+pub fn cached_stream(alloc: Global, snap: Snap) -> CachedStream
+    ensures { IsNewCached snap result }
 {
     let filler = StreamFiller::of(&snap);
     let known = SnapshotReader::new(snap, bare(alloc, Weight::Before));
@@ -34,5 +33,5 @@ pub fn cached_stream(alloc: Global, snap: Snap, tables: TableFrags) -> CachedStr
         from: bare(alloc, Weight::Before),
         to: bare(alloc, Weight::After),
     };
-    CacheReader::new(known, TablesBelow { tables }, filler, whole)
+    CacheReader::new(known, Underlying { list: None }, filler, whole)
 }

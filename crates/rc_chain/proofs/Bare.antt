@@ -11,9 +11,9 @@ use Rattle.rc_core.specs.Version.{Version}
 use Rattle.rc_object.specs.Objects.{HoldsEntry}
 use Rattle.rc_version.specs.Versions.{HoldEntries, IsUnlisted}
 use Rattle.rc_version.specs.laws.Objects.{holds-stands}
-use Rattle.rc_partition.specs.Partitions.{AreStanding, PartitionEntry, StandingVersion, among, partition_of}
-use Rattle.rc_partition.specs.laws.Lists.{elem-here}
-use Rattle.rc_partition.specs.laws.Roots.{empty-unset}
+use Rattle.rc_memory.specs.Partitions.{AreStanding, PartitionEntry, StandingVersion, among, partition_of}
+use Rattle.rc_memory.specs.Lists.{elem-here}
+use Rattle.rc_reading.specs.Roots.{empty-unset}
 use Rattle.rc_registry.specs.declared.uses.Use.{Use}
 use Rattle.rc_registry.specs.Registry.{Registry, use_at}
 use Rattle.rc_memory.specs.declared.counts.Counts.{Counts}

@@ -38,8 +38,8 @@ use Rattle.rc_object.specs.Objects.{HasRoomFor, HoldsEntry, HoldsStatic, entry_l
 use Rattle.rc_object.specs.laws.Spelled.{coded_of}
 use Rattle.rc_version.specs.Versions.{HasStatics, HoldEntries, IsVersionOf, bytes_at, joined_bytes}
 use Rattle.rc_version.specs.laws.Objects.{holds-stands}
-use Rattle.rc_partition.specs.Partitions.{PartitionEntry, StandingVersion}
-use Rattle.rc_partition.specs.laws.Lists.{elem-cases, elem-first, elem-here, elem-later, elem-left, elem-none}
+use Rattle.rc_memory.specs.Partitions.{PartitionEntry, StandingVersion}
+use Rattle.rc_memory.specs.Lists.{elem-cases, elem-first, elem-here, elem-later, elem-left, elem-none}
 use Rattle.rc_registry.specs.Registry.{Registry, put}
 use Rattle.rc_memory.specs.declared.counts.Counts.{Counts}
 use Rattle.rc_memory.specs.Memory.{KeptChain, Member, Memory, HasVersion, IsMemberObject, IsOfVersion, IsVersionAt, IsVersionObject, chain_at, on_chain, on_shown, on_version_of, shown_with}

@@ -11,7 +11,7 @@ use Rattle.rc_core.specs.declared.entries.ChainKind.TheVariants.{Cache}
 use Rattle.rc_core.specs.declared.entries.Entry.{Entry}
 use Rattle.rc_core.specs.Steps.{version_of}
 use Rattle.rc_core.specs.Version.{EndsWithDummy, Version, IsVersion, end_position}
-use Rattle.rc_partition.specs.laws.Lists.{elem-here}
+use Rattle.rc_memory.specs.Lists.{elem-here}
 use Rattle.rc_memory.specs.Memory.{KeptChain, Member, Memory, HasChain, HasVersion, IsVersionAt, chain_at, listed_as, on_chain, on_shown, renumbered_member, shown_detached, shown_without, with_chains}
 use Rattle.rc_memory.specs.Recency.{HasObject, IsRecency, MayBeListed, MustBeListed}
 use Rattle.rc_memory.specs.Changes.{IsUnmoved, IsWithout, Nowhere, NothingListed, OfVersion, StandStill, member}

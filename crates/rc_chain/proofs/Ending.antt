@@ -18,7 +18,7 @@ use Rattle.rc_core.specs.Version.{EndsWithDummy, Version, end_position}
 use Rattle.rc_object.specs.Objects.{HoldsEntry}
 use Rattle.rc_version.specs.Versions.{HoldEntries, IsStaticRowFound, IsVersionOf}
 use Rattle.rc_version.specs.laws.Objects.{holds-stands}
-use Rattle.rc_partition.specs.laws.Lists.{elem-here, elem-split}
+use Rattle.rc_memory.specs.Lists.{elem-here, elem-split}
 use Rattle.rc_registry.specs.Registry.{Registry}
 use Rattle.rc_memory.specs.declared.counts.Counts.{Counts}
 use Rattle.rc_memory.specs.Memory.{KeptChain, Member, Memory, HasVersion, IsMemberObject, IsVersionAt, IsVersionObject, chain_at}

@@ -22,7 +22,7 @@ use Rattle.rc_core.specs.Steps.{on_version, set_flags, with_flags}
 use Rattle.rc_core.specs.Version.{Ascend, EndsWithDummy, Version, IsVersion, end_position}
 use Rattle.rc_core.specs.laws.Placed.{ahead_of, not_end}
 use Rattle.rc_core.specs.laws.Spots.{ascend-tail, turn_to}
-use Rattle.rc_partition.specs.laws.Lists.{elem-cases, elem-none}
+use Rattle.rc_memory.specs.Lists.{elem-cases, elem-none}
 use Rattle.rc_registry.specs.Registry.{AreFree, put}
 use Rattle.rc_memory.specs.Memory.{KeptChain, Member, Memory, HasVersion, IsVersionAt, chain_at, listed_as, on_shown, on_version_of, shown_with}
 use Rattle.rc_memory.specs.Recency.{IsLastInner}

@@ -11,7 +11,7 @@ use Rattle.rc_core.specs.Steps.{renumbered}
 use Rattle.rc_core.specs.Version.{Version, end_position}
 use Rattle.rc_version.specs.Versions.{IsMarked, IsVersionOf}
 use Rattle.rc_version.specs.laws.Marked.{marked-same, marked-then}
-use Rattle.rc_partition.specs.Partitions.{PartitionEntry, StandingVersion}
+use Rattle.rc_memory.specs.Partitions.{PartitionEntry, StandingVersion}
 use Rattle.rc_registry.specs.Registry.{Registry}
 use Rattle.rc_memory.specs.declared.counts.Counts.{Counts}
 use Rattle.rc_memory.specs.Memory.{Member, Memory, IsVersionAt, closed, fewer_versions, partition_without, renumbered_member}

@@ -23,7 +23,7 @@ use Rattle.rc_memory.specs.laws.Places.{same_some}
 use Rattle.rc_memory.specs.laws.Put.{put-at, put-same}
 use Rattle.rc_memory.specs.laws.Still.{unmoved-itself, unmoved-then}
 use Rattle.rc_memory.specs.laws.Versions.{all-but-is}
-use Rattle.rc_partition.specs.laws.Lists.{elem-first, elem-here, elem-later}
+use Rattle.rc_memory.specs.Lists.{elem-first, elem-here, elem-later}
 use Rattle.rc_chain.specs.Lives.{IsEndAlone, IsChainDropped, IsIdle, IsVersionDropped}
 use Rattle.rc_chain.proofs.Bare.{some-chain}
 use Rattle.rc_chain.proofs.Dropping.{more-listed}

@@ -12,9 +12,9 @@ use Rattle.lsa_list.specs.declared.recency.List.{List as Slots}
 use Rattle.lsa_tree.specs.laws.Trees.{stands-same}
 use Rattle.rc_core.specs.Version.{Version}
 use Rattle.rc_version.specs.Versions.{IsVersionOf}
-use Rattle.rc_partition.specs.Partitions.{AreStanding, PartitionEntry, StandingVersion, partition_of}
-use Rattle.rc_partition.specs.laws.Lists.{elem-here}
-use Rattle.rc_partition.specs.laws.Roots.{stands-with_empty, stands-without_empty}
+use Rattle.rc_memory.specs.Partitions.{AreStanding, PartitionEntry, StandingVersion, partition_of}
+use Rattle.rc_memory.specs.Lists.{elem-here}
+use Rattle.rc_reading.specs.Roots.{stands-with_empty, stands-without_empty}
 use Rattle.rc_registry.specs.declared.uses.Use.{Use}
 use Rattle.rc_registry.specs.Registry.{Registry, HasRoot, use_at}
 use Rattle.rc_memory.specs.declared.counts.Counts.{Counts}

@@ -16,7 +16,7 @@ use Rattle.rc_core.specs.Version.{Version}
 use Rattle.rc_version.specs.Versions.{IsMarked, IsVersionOf}
 use Rattle.rc_version.specs.laws.Marked.{marked-same, marked-then}
 use Rattle.rc_version.specs.laws.Staying.{version-outward}
-use Rattle.rc_partition.specs.Partitions.{PartitionEntry, StandingVersion, partition_of, standing}
+use Rattle.rc_memory.specs.Partitions.{PartitionEntry, StandingVersion, partition_of, standing}
 use Rattle.rc_registry.specs.Registry.{Registry, IsNumberIn, put, use_at}
 use Rattle.rc_memory.specs.declared.counts.Counts.{Counts}
 use Rattle.rc_memory.specs.Memory.{KeptChain, Memory, IsVersionAt, chain_at, chain_made, empty_chain, more_versions, on_chain, on_shown, partition_and, shown_updating, shown_with, update_begun}

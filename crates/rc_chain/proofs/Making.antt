@@ -14,7 +14,7 @@ use Rattle.rc_core.specs.declared.entries.Flag.TheVariants.{Inherit}
 use Rattle.rc_core.specs.Steps.{version_of}
 use Rattle.rc_core.specs.Version.{Version, end_position}
 use Rattle.rc_version.specs.Versions.{IsMarked, IsUnlisted, IsVersionOf}
-use Rattle.rc_partition.specs.Partitions.{AreStanding, PartitionEntry, StandingVersion, among, partition_of, standing}
+use Rattle.rc_memory.specs.Partitions.{AreStanding, PartitionEntry, StandingVersion, among, partition_of, standing}
 use Rattle.rc_registry.specs.Registry.{Registry, IsNumberIn, new_use, on_use, put, set_updating, use_at, with_use, without_version}
 use Rattle.rc_memory.specs.declared.counts.Counts.{Counts}
 use Rattle.rc_memory.specs.Memory.{KeptChain, Memory, IsVersionAt, chain_at, chain_made, closed, fewer_versions, listed_as, more_versions, on_shown, update_begun}

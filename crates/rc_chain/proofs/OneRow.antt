@@ -16,7 +16,7 @@ use Rattle.rc_core.specs.Steps.{row_joined, version_of}
 use Rattle.rc_core.specs.Version.{Version, end_position}
 use Rattle.rc_core.specs.laws.Placed.{not_end}
 use Rattle.rc_version.specs.Versions.{entries_bytes, version_bytes}
-use Rattle.rc_partition.specs.Partitions.{version_objects}
+use Rattle.rc_memory.specs.Partitions.{version_objects}
 use Rattle.rc_memory.specs.Memory.{KeptChain, Memory}
 use Rattle.rc_memory.specs.Room.{chain_bytes, chain_objects}
 

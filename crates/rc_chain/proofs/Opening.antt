@@ -4,7 +4,7 @@ use Rattle.lsa_region.specs.declared.end.End.TheVariants.{Slot}
 use Rattle.lsa_region.specs.Ends.{SlotCounts, slots_in}
 use Rattle.lsa_region.specs.Region.{View, live_bytes, link_of, slots_of, IsWell}
 use Rattle.lsa_list.specs.declared.recency.List.{List as Slots}
-use Rattle.rc_partition.specs.laws.Lists.{elem-none, once-none}
+use Rattle.rc_memory.specs.Lists.{elem-none, once-none}
 use Rattle.rc_registry.specs.Registry.{Registry}
 use Rattle.rc_memory.specs.declared.counts.Counts.{Counts}
 use Rattle.rc_memory.specs.Memory.{Memory, counts_raised, raised_by}

@@ -5,7 +5,7 @@ use Rattle.lsa_region.specs.Region.{View}
 use Rattle.lsa_list.specs.declared.recency.List.{List as Slots}
 use Rattle.rc_core.specs.Chains.{IsPinned, upto}
 use Rattle.rc_core.specs.Steps.{pin_at}
-use Rattle.rc_partition.specs.Partitions.{PartitionEntry, StandingVersion}
+use Rattle.rc_memory.specs.Partitions.{PartitionEntry, StandingVersion}
 use Rattle.rc_registry.specs.declared.uses.Use.{Use}
 use Rattle.rc_registry.specs.Registry.{Registry, use_at}
 use Rattle.rc_memory.specs.declared.counts.Counts.{Counts}

@@ -7,7 +7,7 @@ use Rattle.lsa_store.specs.declared.place.Ref.{Ref}
 use Rattle.lsa_list.specs.Recency.{HasRecency, first}
 use Rattle.lsa_region.specs.Region.{View}
 use Rattle.lsa_list.specs.declared.recency.List.{List as Slots}
-use Rattle.rc_partition.specs.Partitions.{AreStanding, IsRowOfVersion, IsRowOfAny, PartitionEntry, StandingVersion, among, partition_of}
+use Rattle.rc_memory.specs.Partitions.{AreStanding, IsRowOfVersion, IsRowOfAny, PartitionEntry, StandingVersion, among, partition_of}
 use Rattle.rc_registry.specs.declared.uses.Use.{Use}
 use Rattle.rc_registry.specs.Registry.{Registry, HasRoot, IsAfter, IsNext, IsThere, use_at}
 use Rattle.rc_memory.specs.declared.counts.Counts.{Counts}
@@ -16,8 +16,8 @@ use Rattle.rc_memory.specs.Kept.{AreKept, HasMemory, HoldMemory, IsMemory, Stand
 use Rattle.rc_memory.specs.laws.At.{IsKeptAt, kept-at, present-split, used-there}
 use Rattle.rc_memory.specs.laws.One.{kept-is}
 use Rattle.rc_memory.specs.laws.Places.{heads, no_some, present-at, same_some, tails, version-there}
-use Rattle.rc_partition.specs.laws.Apart.{row-recency}
-use Rattle.rc_partition.specs.laws.Lists.{elem-here}
+use Rattle.rc_memory.specs.Apart.{row-recency}
+use Rattle.rc_memory.specs.Lists.{elem-here}
 use Rattle.lsa_region.specs.declared.end.Root.{Root}
 use Rattle.rc_core.specs.Version.{Version}
 use Rattle.rc_object.specs.declared.heads.Head.{Head}

@@ -12,7 +12,7 @@ use Rattle.rc_core.specs.Steps.{pin_at}
 use Rattle.rc_core.specs.Version.{Version}
 use Rattle.rc_core.specs.laws.Pins.{pin-is-pinned}
 use Rattle.rc_version.specs.Versions.{IsEntryFound, IsVersionOf}
-use Rattle.rc_partition.specs.laws.Lists.{elem-cases, elem-first, elem-here, elem-later, elem-left, elem-none, elem-pushed, elem-split, once-beside, once-with, once-without}
+use Rattle.rc_memory.specs.Lists.{elem-cases, elem-first, elem-here, elem-later, elem-left, elem-none, elem-pushed, elem-split, once-beside, once-with, once-without}
 use Rattle.rc_registry.specs.Registry.{Registry}
 use Rattle.rc_memory.specs.declared.counts.Counts.{Counts}
 use Rattle.rc_memory.specs.Memory.{KeptChain, Member, Memory, HasPin, HasVersion, IsVersionObject, chain_at, listed_as}

@@ -15,8 +15,8 @@ use Rattle.rc_position.specs.declared.positions.Weight.TheVariants.{After}
 use Rattle.rc_position.specs.Position.{pos_cmp, row_pos, covers, IsBefore}
 use Rattle.rc_position.specs.laws.Orders.{pos_cmp_total, pos_cmp_same}
 use Rattle.rc_position.specs.laws.Bounds.{After-rows, last_pos-greatest}
-use Rattle.rc_ranges.specs.declared.pieces.Piece.{Piece}
-use Rattle.rc_ranges.specs.Cover.{tombs_over}
+use Rattle.rc_mutation.specs.Piece.{Piece}
+use Rattle.rc_mutation.specs.Cover.{tombs_over}
 use Rattle.rc_mutation.specs.declared.mutations.Mutation.{Mutation}
 use Rattle.rc_mutation.specs.Source.{source_at, rows_in}
 use Rattle.rc_core.specs.declared.entries.ChainKind.TheVariants.{Memtable}

@@ -12,7 +12,7 @@ use Rattle.rc_position.specs.declared.comps.Comp.{Comp}
 use Rattle.rc_position.specs.declared.positions.Pos.{Pos}
 use Rattle.rc_position.specs.declared.positions.Weight.TheVariants.{After}
 use Rattle.rc_position.specs.Position.{IsBefore, row_pos}
-use Rattle.rc_ranges.specs.declared.pieces.Piece.{Piece}
+use Rattle.rc_mutation.specs.Piece.{Piece}
 use Rattle.rc_mutation.specs.declared.mutations.Mutation.{Mutation}
 use Rattle.rc_mutation.specs.Source.{source_at, source_at_head, source_at_static}
 use Rattle.rc_core.specs.declared.entries.ChainKind.TheVariants.{Memtable}

@@ -16,6 +16,7 @@ pub use plain::{
     drop_entry, evict_under_update, filled_mark, flag_under, is_known_in, join_updated_row,
     mark_of_lost, may_populate, merge_end, merge_head, put_down, raised_mark, release_pin,
 };
+pub use rc_mutation::greater_tomb;
 pub use slow::{
     PlainVersion, Seen, Side, as_one, base_at, first_part, head_of, is_flagged_at, is_known_at,
     known_by, nothing_seen, seen_at, seen_over, statics_at,

@@ -10,7 +10,7 @@ use Rattle.rc_core.specs.Continuity.{static_states, version_tombs}
 use Rattle.rc_core.specs.Steps.{pin_at}
 use Rattle.rc_reading.specs.declared.reads.ReadHead.{ReadHead}
 use Rattle.rc_reading.specs.Reading.{IsRowGiven}
-use Rattle.rc_memory.specs.Memory.{HasPin, KeptChain, Memory, chain_at}
+use Rattle.rc_chain.specs.Memory.{HasPin, KeptChain, Memory, chain_at}
 use Rattle.rc_chain.specs.declared.chains.Snap.{Snap}
 use Rattle.rc_cursor.specs.Snapshots.{IsHeadSeen, versions_seen}
 use Rattle.rc_cursor.proofs.Parts.{seen-as}

@@ -21,7 +21,7 @@ use Rattle.rc_core.specs.Steps.{pin_at}
 use Rattle.rc_core.specs.Version.{On, Version}
 use Rattle.rc_stream.specs.Places.{Reaches}
 use Rattle.rc_reading.specs.laws.{before-end}
-use Rattle.rc_memory.specs.Memory.{HasPin, KeptChain, Memory, chain_at}
+use Rattle.rc_chain.specs.Memory.{HasPin, KeptChain, Memory, chain_at}
 use Rattle.rc_chain.specs.declared.chains.Snap.{Snap}
 use Rattle.rc_stream.specs.Snapshot.{IsPartFrom, place_behind}
 use Rattle.rc_cursor.specs.Snapshots.{AreReadable, IsKnownAs, kind_in, kind_seen, versions_in, versions_seen, versions_upto}

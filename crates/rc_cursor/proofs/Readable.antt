@@ -17,7 +17,7 @@ use Rattle.rc_core.specs.declared.entries.ChainKind.TheVariants.{Cache}
 use Rattle.rc_core.specs.laws.Written.{no_rows_off}
 use Rattle.rc_core.specs.Steps.{pin_at}
 use Rattle.rc_core.specs.Version.{Version}
-use Rattle.rc_memory.specs.Memory.{KeptChain}
+use Rattle.rc_chain.specs.Memory.{KeptChain}
 use Rattle.rc_cursor.specs.Snapshots.{AreReadable}
 
 -- a snapshot's chain and the number of its version

@@ -4,8 +4,8 @@ use Rattle.std.specs.Prelude.{IfSome, IsSomeAnd}
 use Rattle.std.specs.Option.{option_map}
 use Rattle.rc_core.specs.Chains.{upto}
 use Rattle.rc_core.specs.Steps.{free_number, pin_at, pinned}
-use Rattle.rc_memory.specs.laws.Put.{put-at}
-use Rattle.rc_memory.specs.Memory.{HasPin, IsSnapshotTaken, KeptChain, Memory, chain_at, snapshot_number, with_snapshot}
+use Rattle.rc_chain.specs.Put.{put-at}
+use Rattle.rc_chain.specs.Memory.{HasPin, IsSnapshotTaken, KeptChain, Memory, chain_at, snapshot_number, with_snapshot}
 use Rattle.rc_chain.specs.declared.chains.Snap.{Snap}
 use Rattle.rc_cursor.specs.Snapshots.{kind_in, kind_seen, versions_in, versions_seen, versions_upto}
 

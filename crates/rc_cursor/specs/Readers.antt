@@ -1,6 +1,6 @@
 -- What calls do to a snapshot that is read.
 use Rattle.std.specs.Prelude.{◌≡◌}
-use Rattle.rc_memory.specs.Memory.{Memory}
+use Rattle.rc_chain.specs.Memory.{Memory}
 use Rattle.rc_cursor.specs.declared.readers.SnapshotReader.{SnapshotReader}
 
 -- nothing but the place: the home is as it was, and the snapshot is the same one

@@ -15,7 +15,7 @@ use Rattle.rc_core.specs.declared.entries.ChainKind.{ChainKind}
 use Rattle.rc_core.specs.declared.entries.ChainKind.TheVariants.{Cache}
 use Rattle.rc_core.specs.Steps.{pin_at}
 use Rattle.rc_core.specs.Version.{On, Version}
-use Rattle.rc_memory.specs.Memory.{KeptChain, Memory, chain_at}
+use Rattle.rc_chain.specs.Memory.{KeptChain, Memory, chain_at}
 use Rattle.rc_chain.specs.declared.chains.Snap.{Snap}
 use Rattle.rc_stream.specs.Snapshot.{There}
 

@@ -1,7 +1,7 @@
 //! The place.
 ghost use Rattle.std.specs.Prelude.{◌≡◌, IfOk, OnErr, OnOk};
 ghost use Rattle.rc_core.specs.Parts.{IsFirstPart};
-ghost use Rattle.rc_memory.specs.Memory.{HasPin};
+ghost use Rattle.rc_chain.specs.Memory.{HasPin};
 ghost use Rattle.rc_stream.specs.Places.{Reaches};
 ghost use Rattle.rc_stream.specs.Snapshot.{IsPartFrom, place_behind};
 ghost use Rattle.rc_cursor.specs.Snapshots.{IsReadable, Knows, kind_seen, versions_seen};

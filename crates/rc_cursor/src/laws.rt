@@ -12,7 +12,7 @@ ghost use Rattle.rc_core.specs.StandsFor.{StandsFor};
 ghost use Rattle.rc_core.specs.Steps.{IsChain, pin_at};
 ghost use Rattle.rc_core.specs.Version.{Version};
 ghost use Rattle.rc_chain.specs.declared.chains.Snap.{Snap};
-ghost use Rattle.rc_memory.specs.Memory.{HasPin, IsSnapshotTaken, IsUntouched, KeptChain, Memory, chain_at, snapshot_number};
+ghost use Rattle.rc_chain.specs.Memory.{HasPin, IsSnapshotTaken, IsUntouched, KeptChain, Memory, chain_at, snapshot_number};
 ghost use Rattle.rc_stream.specs.Snapshot.{IsPartFrom};
 ghost use Rattle.rc_cursor.specs.Snapshots.{AreReadable, IsKnownAs, kind_seen, versions_seen};
 

@@ -6,4 +6,5 @@ pub mod laws;
 mod readers;
 
 pub use cursors::Cursor;
+pub use rc_chain::{Chains, Snap};
 pub use readers::SnapshotReader;

@@ -59,7 +59,7 @@ fn head_at(alloc: Global, read: ReadHead) -> HeadAt
 }
 
 impl<const S: usize> Known<Chains<S>> for SnapshotReader {
-    ghost use Rattle.rc_memory.specs.Memory.{HasPin};
+    ghost use Rattle.rc_chain.specs.Memory.{HasPin};
     ghost use Rattle.rc_cursor.specs.Snapshots.{IsHeadSeen, IsReadable, Knows};
     ghost use Rattle.rc_cursor.specs.Readers.{IsOnlyRead};
 

@@ -3,7 +3,6 @@ use Rattle.std.proofs.Common.{◌≡◌, ◌==◌, ℕ, ◌-◌, MatchBool, nat_
 use Rattle.std.specs.List.{filter, list_all}
 use Rattle.std.specs.Map.{lookup, set_value}
 use Rattle.std.proofs.lemmas.Map.Entries.{lookup-filter-keys}
-use Rattle.rc_schema.specs.SchemaValue.{SchemaValue}
 use Rattle.rc_position.specs.declared.slices.Slice.{Slice}
 use Rattle.rc_lines.specs.declared.commands.Command.{Command}
 use Rattle.rc_lines.specs.declared.commands.Command.TheVariants.{Nothing, SetSchema, Put, OpenRead, Read, Close, Flush, FlushBegin, FlushStep, Evict, Compact, Clean, Stats}
@@ -14,7 +13,7 @@ use Rattle.rc_lines.specs.declared.commands.Reply.TheVariants as replies
 use Rattle.rc_machine.specs.State.{State, Reader, numbers, reader_of}
 use Rattle.rc_machine.specs.Steps.{Steps, AfterSteps, Refuses, Opens, Gives, Stores, is_of, most_readers, last_number, next_number, with_table, without_sealed}
 
-abbrev Readers : Type 0
+abbrev pub Readers : Type 0
 Readers = List (ℕ × Reader)
 
 -- behind what is found nothing matters
@@ -72,7 +71,7 @@ module _ (m new : State) (id : ℕ) (r : Reader) (reply : Reply) (open_before : 
   tries other key slice (Some more) b s = still s.1
 
   gives : (other count : ℕ) (left : Reader) → (other == id) ≡ false → Gives m other count left reply new → reader_of id new ≡ Some r
-  gives other count left h (inl s) = ap (λ (m : State). lookup (λ k. k == id) m.readers) s.1 ∙ stays_beside other id m.readers _ h ∙ open_before
+  gives other count left h (inl s) = ap (λ (m : State). lookup (λ k. k == id) m.readers) s.2.1 ∙ stays_beside other id m.readers _ h ∙ open_before
   gives other count left h (inr (inl s)) = still s.1
   gives other count left h (inr (inr s)) = still s.4.1
 

@@ -6,4 +6,5 @@ pub mod Built
 pub mod Standing
 pub mod Serving
 pub mod Flushed
+pub mod OneAnswer
 pub mod laws

@@ -1,6 +1,6 @@
 -- When a write may be refused for want of room.
 --     MayBeFull       all accepted writes, by weight, pass three quarters of all segments but two
-use Rattle.std.specs.Prelude.{ℕ, ◌-◌, ◌*◌, ◌/◌, ◌<◌, sum_by}
+use Rattle.std.specs.Prelude.{◌-◌, ◌*◌, ◌/◌, ◌<◌, sum_by}
 use Rattle.rc_writes.specs.Weight.{weight}
 use Rattle.rc_machine.specs.State.{State}
 

@@ -1,26 +1,22 @@
 -- The machine without a cache: one step, by cases of the command.
---     IsSaid, Opens     what the tables say to a reader that is opened
---     Gives             the lines that a reader is given next
---     Stores            how sealed writes become a table
---     Steps, AfterSteps      one step, and several
-use Rattle.std.specs.Prelude.{◌≡◌, ◌≢◌, ℕ, ◌+◌, ◌-◌, ◌≤◌, ◌==◌, ◌⊎◌, Bool, true, false, not, nat_lt, List, [], ◌∷◌, ◌++◌, length, take, drop, fold, Some, None, MatchBool, MatchOption, option_map, if◌then◌else◌}
+--     MaySay, IsSaid, Opens      what the tables say to a reader that is opened
+--     IsResaid, Gives            what they say to one that is read from, and the lines that it is given next
+--     Stores                     how sealed writes become a table
+--     Steps, AfterSteps          one step, and several
+use Rattle.std.specs.Prelude.{◌≡◌, ◌≢◌, ℕ, ◌+◌, ◌-◌, ◌≤◌, ◌==◌, ◌⊎◌, Bool, true, false, not, nat_lt, List, [], ◌∷◌, ◌++◌, length, take, fold, Some, None, MatchBool, MatchOption, option_map, if◌then◌else◌}
 use Rattle.std.specs.List.{filter, AllByRecursion}
 use Rattle.std.specs.Map.{set_value}
 use Rattle.std.specs.FinMap as map
-use Rattle.rc_position.specs.declared.comps.Comp.{Comp}
 use Rattle.rc_position.specs.declared.positions.Pos.{Pos}
 use Rattle.rc_position.specs.declared.positions.Weight.TheVariants.{After as AfterKey}
 use Rattle.rc_position.specs.declared.slices.Slice.{Slice}
 use Rattle.rc_schema.specs.SchemaValue.{SchemaValue}
 use Rattle.rc_mutation.specs.declared.mutations.Mutation.{Mutation}
 use Rattle.rc_mutation.specs.declared.mutations.Partition.{Partition}
-use Rattle.rc_mutation.specs.declared.mutations.Write.{Write}
 use Rattle.rc_mutation.specs.Source.{changes_to}
 use Rattle.rc_mutation.specs.Fragments.{IsParts, units}
 use Rattle.rc_query.specs.declared.lines.OutLine.{OutLine}
 use Rattle.rc_query.specs.declared.lines.OutLine.TheVariants as out_line
-use Rattle.rc_query.specs.Answer.{answer}
-use Rattle.rc_tfile.specs.declared.info.TableInfo.{TableInfo}
 use Rattle.rc_tfile.specs.Before.{text}
 use Rattle.rc_tfile.specs.Info.{info_of}
 use Rattle.rc_tfile.specs.TableText.{whole_table, IsTable}
@@ -34,7 +30,7 @@ use Rattle.rc_lines.specs.declared.commands.Refusal.{Refusal}
 use Rattle.rc_lines.specs.declared.commands.Reply.{Reply}
 use Rattle.rc_lines.specs.declared.commands.Reply.TheVariants as replies
 use Rattle.rc_lines.specs.declared.commands.Refusal.TheVariants.{SchemaDiffers, NoReader, ReaderInUse, TooManyReaders, FlushInProgress, NothingToFlush, NoFlush, NoNumber, Full, ReadFault, WriteFault, Damaged}
-use Rattle.rc_machine.specs.State.{State, Reader, numbers, unstored, reader_of}
+use Rattle.rc_machine.specs.State.{State, Reader, lines_of, rest_of, numbers, unstored, reader_of}
 use Rattle.rc_machine.specs.Room.{MayBeFull}
 
 -- at most so many readers are open at once
@@ -57,10 +53,19 @@ Refuses next refusal reply new = (reply ≡ replies.Refused refusal) × (new ≡
 abbrev pub Does : State → Reply → State → Type 0
 Does next reply new = (reply ≡ replies.Fine) × (new ≡ next)
 
--- What the tables say of a partition to a reader: exactly what they hold, where the folder is told. Else what they hold is not known, and
--- each that lists the key may say anything once that a table of the schema can hold; where none lists it they say nothing.
+-- what so many tables of a schema may say of a partition, where it is not known what they hold: each anything once that a table of the schema can hold
+abbrev pub MaySay : SchemaValue → ℕ → List Mutation → Type 0
+MaySay schema n said = (length said ≤ n) × AllByRecursion (SaysOf schema) said
+
+-- What the tables say of a partition to a reader that is opened: exactly what they hold, where the folder is told. Else what as many may say as list it;
+-- where none lists it they say nothing.
 abbrev pub IsSaid : State → List ℕ → List Mutation → Type 0
-IsSaid m key said = MatchOption m.files ((length said ≤ listing key m.infos) × AllByRecursion (SaysOf m.schema) said) (λ files. said ≡ changes_at key m.tables)
+IsSaid m key said = MatchOption m.files (MaySay m.schema (listing key m.infos) said) (λ files. said ≡ changes_at key m.tables)
+
+-- What the tables say to an open reader: what they said before; or, where the folder is not told, what as many may say as listed the partition when it was
+-- opened, if the lines of its answer that are settled stay.
+abbrev pub IsResaid : State → Reader → List Mutation → Type 0
+IsResaid m r said = (said ≡ r.said) ⊎ ((m.files ≡ None) × MaySay m.schema r.listed said × (take r.settled (lines_of (record r { said = said })) ≡ take r.settled (lines_of r)))
 
 -- a partition could not be read: the store failed; or, where the folder is not told, what was read of a table that lists the key contradicts what is
 -- known of it, so it is not what it was
@@ -68,14 +73,15 @@ abbrev pub ReadFails : State → List ℕ → Reply → State → Type 0
 ReadFails m key reply new = Refuses m ReadFault reply new
     ⊎ ((file : ℕ) × (offset : ℕ) × (m.files ≡ None) × IsDamageOf m.schema key m.infos (stream_err.Damaged file offset) × Refuses m (Damaged file offset) reply new)
 
--- a reader as it is opened, with its answer
-abbrev pub reader_with : State → List ℕ → Slice → List OutLine → Reader
-reader_with m key slice lines = record { key = key; slice = slice; place = slice.from; rest = lines; first = if m.stored == length m.log then None else Some m.stored }
+-- a reader as it is opened, to which the tables say this
+abbrev pub reader_with : State → List ℕ → Slice → List Mutation → Reader
+reader_with m key slice said =
+    record { key = key; slice = slice; place = slice.from; said = said; writes = changes_to key (unstored m); listed = listing key m.infos; first = if m.stored == length m.log then None else Some m.stored; settled = 0 }
 
--- a reader is opened: its answer is fixed now, to what the tables say and then the writes that stand in none; or its partition could not be read
+-- a reader is opened: its answer is to what the tables say and then the writes that stand in none; or its partition could not be read
 abbrev pub Opens : State → ℕ → List ℕ → Slice → Reply → State → Type 0
-Opens m id key slice reply new = ((said : List Mutation) × IsSaid m key said
-    × Does (record m { readers = m.readers ++ (id, reader_with m key slice (answer (said ++ changes_to key (unstored m)) slice)) ∷ [] }) reply new) ⊎ ReadFails m key reply new
+Opens m id key slice reply new =
+    ((said : List Mutation) × IsSaid m key said × Does (record m { readers = m.readers ++ (id, reader_with m key slice said) ∷ [] }) reply new) ⊎ ReadFails m key reply new
 
 -- the position behind lines that were given, of which the first begin behind x: behind the last row
 abbrev pub position_behind : Pos → List OutLine → Pos
@@ -83,14 +89,15 @@ position_behind x [] = x
 position_behind x (out_line.Static shown ∷ lines) = position_behind x lines
 position_behind x (out_line.Row key shown ∷ lines) = position_behind (record { prefix = key; weight = AfterKey }) lines
 
--- a reader that was given its next lines: it stands behind them, or at its slice's end where none are left
+-- a reader that was asked for its next lines: it stands behind them, or at its slice's end where none are left
 abbrev pub reader_past : ℕ → Reader → Reader
-reader_past count r = record r { place = if nat_lt count (length r.rest) then position_behind r.place (take count r.rest) else r.slice.to; rest = drop count r.rest }
+reader_past count r = record r { place = if nat_lt count (length (rest_of r)) then position_behind r.place (take count (rest_of r)) else r.slice.to; settled = r.settled - 1 + count + 1 }
 
--- a reader gives its next lines, and whether there are more; or its partition could not be read
+-- a reader gives the next lines of its answer to what the tables say now, and whether there are more; or its partition could not be read
 abbrev pub Gives : State → ℕ → ℕ → Reader → Reply → State → Type 0
-Gives m id count r reply new = ((reply ≡ replies.Given (take count r.rest) (nat_lt count (length r.rest)))
-    × (new ≡ record m { readers = set_value (λ k. k == id) m.readers (reader_past count r) })) ⊎ ReadFails m r.key reply new
+Gives m id count r reply new = ((said : List Mutation) × IsResaid m r said × (let now = record r { said = said } in
+    (reply ≡ replies.Given (take count (rest_of now)) (nat_lt count (length (rest_of now)))) × (new ≡ record m { readers = set_value (λ k. k == id) m.readers (reader_past count now) })))
+    ⊎ ReadFails m r.key reply new
 
 -- how many writes stand in tables or in the next one, once what is not sealed yet is sealed, unless something is
 abbrev pub sealing : State → ℕ

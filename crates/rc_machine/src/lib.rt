@@ -5,4 +5,7 @@ mod fitting;
 mod laws;
 
 pub use fitting::{fitting_parts_make_a_table, parts_of_fitting_writes_fit};
-pub use laws::{closed_readers_are_gone, readers_are_fixed, tables_hold_what_was_flushed};
+pub use laws::{
+    a_reader_gives_one_answer, closed_readers_are_gone, readers_are_fixed,
+    tables_hold_what_was_flushed,
+};

@@ -12,13 +12,13 @@ use Rattle.rc_position.specs.declared.positions.Pos.{Pos}
 use Rattle.lsa_store.specs.declared.place.Ref.{Ref}
 use Rattle.lsa_region.specs.Region.{View}
 use Rattle.rc_cell.specs.declared.rows.Row.{Row}
-use Rattle.rc_core.specs.declared.entries.ChainKind.{ChainKind}
-use Rattle.rc_core.specs.declared.entries.ChainKind.TheVariants.{Cache, Memtable}
-use Rattle.rc_core.specs.declared.entries.Entry.{Entry}
-use Rattle.rc_core.specs.Chains.{Shown, IsPinned}
-use Rattle.rc_core.specs.Steps.{on_version}
-use Rattle.rc_core.specs.Version.{Version}
-use Rattle.rc_version.specs.Versions.{IsMarked}
+use Rattle.rc_registry.specs.ChainKind.{ChainKind}
+use Rattle.rc_registry.specs.ChainKind.TheVariants.{Cache, Memtable}
+use Rattle.rc_registry.specs.Entry.{Entry}
+use Rattle.rc_registry.specs.Chains.{Shown, IsPinned}
+use Rattle.rc_registry.specs.Steps.{on_version}
+use Rattle.rc_registry.specs.Version.{Version}
+use Rattle.rc_partition.specs.Versions.{IsMarked}
 use Rattle.rc_memory.specs.Memory.{KeptChain, Member, Memory, IsMemberObject, IsVersionAt, IsVersionObject, chain_at, on_chain, on_shown, on_version_of}
 use Rattle.rc_memory.specs.Recency.{HasObject, IsLastInner, IsUnderUpdate}
 use Rattle.rc_memory.specs.Room.{FitTogether}

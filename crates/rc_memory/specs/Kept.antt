@@ -6,9 +6,9 @@
 use Rattle.std.specs.Prelude.{◌≡◌, ◌<◌, ◌≤◌, ◌+◌, ℕ, suc, true, List, [], ◌∷◌, Option, Some, None, IfSome, length, map, ⊤}
 use Rattle.lsa_store.specs.declared.place.Ref.{Ref}
 use Rattle.lsa_region.specs.Region.{View, slots_of, IsWell}
-use Rattle.lsa_list.specs.declared.recency.List.{List as Slots}
-use Rattle.rc_core.specs.declared.entries.ChainKind.TheVariants.{Cache}
-use Rattle.rc_core.specs.Chains.{Shown, IsPinned}
+use Rattle.rc_partition.specs.List.{List as Slots}
+use Rattle.rc_registry.specs.ChainKind.TheVariants.{Cache}
+use Rattle.rc_registry.specs.Chains.{Shown, IsPinned}
 use Rattle.rc_partition.specs.Partitions.{PartitionEntry, AreStanding}
 use Rattle.rc_registry.specs.declared.uses.Use.{Use}
 use Rattle.rc_registry.specs.Registry.{Registry}

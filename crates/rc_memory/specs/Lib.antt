@@ -5,3 +5,7 @@ pub mod Kept
 pub mod Changes
 pub mod laws
 pub mod calls
+pub use Rattle.rc_partition.specs.Partitions
+pub use Rattle.rc_partition.specs.laws.Apart
+pub use Rattle.rc_partition.specs.laws.Lists
+pub use Rattle.rc_partition.specs.laws.Bytes

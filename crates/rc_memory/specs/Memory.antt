@@ -8,13 +8,13 @@ use Rattle.std.specs.Prelude.{◌≡◌, ◌<◌, ◌+◌, ◌-◌, ◌^◌, min
 use Rattle.rc_position.specs.declared.positions.Pos.{Pos}
 use Rattle.lsa_store.specs.declared.place.Ref.{Ref}
 use Rattle.lsa_region.specs.declared.end.Root.{Root}
-use Rattle.rc_core.specs.declared.entries.ChainKind.{ChainKind}
+use Rattle.rc_registry.specs.ChainKind.{ChainKind}
 use Rattle.lsa_region.specs.Region.{View}
-use Rattle.lsa_tree.specs.Entries.{IsEntryAtPosition}
-use Rattle.rc_core.specs.Chains.{Shown}
-use Rattle.rc_core.specs.Steps.{free_number, on_version, pin_at, pinned, released, all_but, renumbered}
-use Rattle.rc_core.specs.Version.{Version}
-use Rattle.rc_version.specs.Versions.{IsStaticsOf}
+use Rattle.rc_partition.specs.Entries.{IsEntryAtPosition}
+use Rattle.rc_registry.specs.Chains.{Shown}
+use Rattle.rc_registry.specs.Steps.{free_number, on_version, pin_at, pinned, released, all_but, renumbered}
+use Rattle.rc_registry.specs.Version.{Version}
+use Rattle.rc_partition.specs.Versions.{IsStaticsOf}
 use Rattle.rc_partition.specs.Partitions.{PartitionEntry, StandingVersion, partition_as, partition_of}
 use Rattle.rc_registry.specs.Registry.{put, IsAfter}
 use Rattle.rc_memory.specs.declared.counts.Counts.{Counts}

@@ -4,11 +4,11 @@
 --     IsRecency       the list of a shard is such a list
 use Rattle.std.specs.Prelude.{◌≡◌, ◌≢◌, ℕ, suc, true, List, [], ◌∷◌, ◌++◌, Option, Some, None, IsSome, IsSomeAnd, length, Contains, AllPairs}
 use Rattle.rc_position.specs.declared.positions.Pos.{Pos}
-use Rattle.rc_core.specs.declared.entries.ChainKind.TheVariants.{Cache}
-use Rattle.rc_core.specs.declared.entries.Entry.{Entry}
-use Rattle.rc_core.specs.AtPlace.{HasEntryAt}
-use Rattle.rc_core.specs.Chains.{Shown}
-use Rattle.rc_core.specs.Version.{Version, end_position}
+use Rattle.rc_registry.specs.ChainKind.TheVariants.{Cache}
+use Rattle.rc_registry.specs.Entry.{Entry}
+use Rattle.rc_registry.specs.AtPlace.{HasEntryAt}
+use Rattle.rc_registry.specs.Chains.{Shown}
+use Rattle.rc_registry.specs.Version.{Version, end_position}
 use Rattle.rc_memory.specs.Memory.{Member, Memory, IsVersionAt, chain_at}
 
 -- a version has an object there: an entry at a position, or a static row

@@ -4,9 +4,9 @@ use Rattle.rc_cell.specs.declared.rows.Row.{Row}
 use Rattle.rc_cell.specs.Winner.{joined_row}
 use Rattle.rc_position.specs.declared.positions.Pos.{Pos}
 use Rattle.rc_rowcode.specs.Objects.{dummy_size, static_size}
-use Rattle.rc_core.specs.declared.entries.Entry.{Entry}
-use Rattle.rc_core.specs.Version.{Version}
-use Rattle.rc_version.specs.Versions.{bytes_at, version_bytes}
+use Rattle.rc_registry.specs.Entry.{Entry}
+use Rattle.rc_registry.specs.Version.{Version}
+use Rattle.rc_partition.specs.Versions.{bytes_at, version_bytes}
 use Rattle.rc_partition.specs.Partitions.{version_objects}
 use Rattle.rc_memory.specs.Memory.{KeptChain, Memory, chain_at}
 

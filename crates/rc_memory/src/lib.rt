@@ -5,3 +5,4 @@ mod counts;
 pub mod laws;
 
 pub use counts::Counts;
+pub use rc_partition::{add_version, count, drop_version, home, version};

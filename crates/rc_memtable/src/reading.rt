@@ -11,7 +11,7 @@ ghost use Rattle.rc_mutation.specs.declared.mutations.Mutation.{Mutation as Chan
 ghost use Rattle.rc_mutation.specs.Source.{SameSource, source_at};
 ghost use Rattle.rc_core.specs.StandsFor.{piece_over, place_after};
 ghost use Rattle.rc_core.specs.Version.{Version};
-ghost use Rattle.rc_reading.specs.Reading.{IsRowGiven};
+ghost use Rattle.rc_chain.specs.Reading.{IsRowGiven};
 ghost use Rattle.rc_memtable.specs.calls.Reading.{EndsAhead, IsPartTaken, IsSeenBy, SayChanges, said_so_far};
 
 use rc_cell::{Row, Tomb};

@@ -6,3 +6,5 @@ pub mod Slices
 pub mod Statics
 pub mod laws
 pub mod calls
+pub use Rattle.rc_ranges.specs.Cover
+pub use Rattle.rc_ranges.specs.declared.pieces.Piece

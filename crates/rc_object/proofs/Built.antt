@@ -16,8 +16,8 @@ use Rattle.lsa_kinds.specs.declared.kind.Kind.{Kind}
 use Rattle.lsa_kinds.specs.declared.kind.Kind.TheVariants.{RowEntry, Dummy, Static}
 use Rattle.lsa_kinds.specs.Kinds.{up8}
 use Rattle.lsa_kinds.specs.Fields.{number_at}
-use Rattle.lsa_store.specs.Objects.{rounded_size}
-use Rattle.lsa_store.specs.declared.place.Ref.{Ref}
+use Rattle.lsa_region.specs.Objects.{rounded_size}
+use Rattle.lsa_region.specs.Ref.{Ref}
 use Rattle.lsa_region.specs.Region.{View, body}
 use Rattle.rc_object.specs.Objects.{SpellsMarks, SpellsEntry, entry_kind, row_part, entry_of, HoldsStatic}
 use Rattle.rc_object.specs.calls.Making.{IsEntryBegun, IsEntryBuilt}

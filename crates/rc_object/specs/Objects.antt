@@ -18,8 +18,8 @@ use Rattle.lsa_kinds.specs.declared.kind.Kind.{Kind}
 use Rattle.lsa_kinds.specs.declared.kind.Kind.TheVariants.{Version, RowEntry, Dummy, Static}
 use Rattle.lsa_kinds.specs.Fields.{number_at}
 use Rattle.lsa_pool.specs.Room.{spare_of}
-use Rattle.lsa_store.specs.declared.place.Ref.{Ref}
-use Rattle.lsa_store.specs.Objects.{rounded_size}
+use Rattle.lsa_region.specs.Ref.{Ref}
+use Rattle.lsa_region.specs.Objects.{rounded_size}
 use Rattle.lsa_region.specs.Region.{View, body, objects, live_bytes, IsAdded, IsWritten, Risen}
 use Rattle.rc_object.specs.declared.heads.Head.{Head}
 

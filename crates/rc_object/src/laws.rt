@@ -5,7 +5,7 @@ ghost use Rattle.rc_rowcode.specs.Spelling.{pos_code, IsPos};
 ghost use Rattle.rc_core.specs.declared.entries.Entry.{Entry};
 ghost use Rattle.lsa_kinds.specs.declared.kind.Kind.TheVariants.{RowEntry, Dummy};
 ghost use Rattle.lsa_kinds.specs.Fields.{number_at};
-ghost use Rattle.lsa_store.specs.declared.place.Ref.{Ref};
+ghost use Rattle.lsa_region.specs.Ref.{Ref};
 ghost use Rattle.lsa_region.specs.Ends.{named_as};
 ghost use Rattle.lsa_region.specs.Region.{View, body, Renamed};
 ghost use Rattle.rc_object.specs.declared.heads.Head.{Head};

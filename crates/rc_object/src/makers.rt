@@ -2,7 +2,7 @@
 ghost use Rattle.std.specs.Prelude.{◌≡◌, ◌≢◌, ◌+◌, ◌/◌, ◌<◌, ◌^◌, ◌≤◌, [], ◌∷◌, ◌++◌, length, Some, None};
 ghost use Rattle.lsa_kinds.specs.Fields.{number_at};
 ghost use Rattle.lsa_pool.specs.Room.{spare_of};
-ghost use Rattle.lsa_store.specs.Objects.{rounded_size};
+ghost use Rattle.lsa_region.specs.Objects.{rounded_size};
 ghost use Rattle.lsa_region.specs.Region.{body, IsWell};
 ghost use Rattle.rc_cell.specs.declared.rows.Row.{Row};
 ghost use Rattle.rc_cell.specs.Winner.{joined_row};

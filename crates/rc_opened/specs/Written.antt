@@ -8,7 +8,7 @@ use Rattle.std.specs.Prelude.{[], Option, Some, None, option_map}
 use Rattle.rc_cell.specs.Winner.{empty_row}
 use Rattle.rc_chain.specs.declared.chains.Snap.{Snap}
 use Rattle.rc_stream.specs.Stream.{Stream}
-use Rattle.rc_cursor.specs.declared.readers.SnapshotReader.{SnapshotReader}
+use Rattle.rc_snapshots.specs.SnapshotReader.{SnapshotReader}
 use Rattle.rc_cacheread.specs.declared.readers.CacheReader.{CacheReader}
 use Rattle.rc_snapshots.specs.declared.fillers.NoFiller.{NoFiller}
 use Rattle.rc_snapshots.specs.Streams.{IsNewStream, IsOf}

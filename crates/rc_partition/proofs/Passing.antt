@@ -16,7 +16,7 @@ use Rattle.lsa_path.specs.laws.Members.{member-split}
 use Rattle.lsa_path.specs.laws.Paths.{same_object, same_some, path-rest}
 use Rattle.lsa_path.specs.laws.Renamed.{some-there}
 use Rattle.lsa_list.specs.Recency.{object_of}
-use Rattle.lsa_tree.specs.Entries.{IsEntryKind}
+use Rattle.rc_version.specs.Entries.{IsEntryKind}
 use Rattle.rc_core.specs.Version.{Version}
 use Rattle.rc_version.specs.Versions.{IsStaticsOf, IsVersionOf}
 use Rattle.rc_version.specs.laws.Staying.{entries-kind, version-kind}

@@ -1,2 +1,13 @@
 pub mod laws
 pub mod Partitions
+pub use Rattle.rc_version.specs.Versions
+pub use Rattle.rc_version.specs.laws.Staying
+pub use Rattle.rc_version.specs.laws.Marked
+pub use Rattle.rc_version.specs.laws.Objects
+pub use Rattle.lsa_list.specs.declared.recency.List
+pub use Rattle.rc_version.specs.Entries
+pub use Rattle.rc_version.specs.Trees
+pub use Rattle.rc_version.specs.Orders
+pub use Rattle.rc_version.specs.Found
+pub use Rattle.rc_version.specs.laws.Holding
+pub use Rattle.lsa_list.specs.Recency

@@ -13,7 +13,7 @@ ghost use Rattle.rc_position.specs.declared.positions.Pos.{Pos};
 ghost use Rattle.rc_core.specs.declared.entries.Flag.{Flag};
 ghost use Rattle.rc_core.specs.Steps.{join_pt, set_flags, set_static_flag, set_tombs};
 ghost use Rattle.rc_core.specs.Version.{Version};
-ghost use Rattle.rc_object.specs.Objects.{IsRewritten};
+ghost use Rattle.rc_version.specs.Objects.{IsRewritten};
 ghost use Rattle.rc_version.specs.Versions.{IsKeptBut, IsUnlisted, IsVersionOf, IsWeighed, version_bytes};
 ghost use Rattle.rc_partition.specs.Partitions.{PartitionEntry, StandingVersion, AreStanding, IsRowOfVersion, IsRowOfAny, among, partition_as, partition_objects, partition_of, roots_of, standing};
 

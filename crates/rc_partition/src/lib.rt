@@ -6,3 +6,4 @@ mod partitions;
 mod walks;
 
 pub use partitions::{add_version, count, drop_version, home, version};
+pub use rc_version::static_row;

@@ -10,7 +10,7 @@ ghost use Rattle.rc_partition.specs.Partitions.{StandingVersion, IsRowOfVersion}
 
 use lsa_kinds::Kind;
 use lsa_region::{End, Ref, Region, Root};
-use lsa_tree::top_of;
+use rc_version::top_of;
 
 // The object that an end names; None where it names a root slot, or nothing.
 fn object_at<const S: usize>(region: &Region<S>, at: End) -> Option<Ref>

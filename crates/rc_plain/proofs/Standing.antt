@@ -26,10 +26,11 @@ use Rattle.rc_lines.specs.declared.commands.Command.TheVariants.{Put, OpenRead, 
 use Rattle.rc_lines.specs.declared.commands.Reply.{Reply}
 use Rattle.rc_lines.specs.declared.commands.Reply.TheVariants as replies
 use Rattle.rc_lines.specs.declared.commands.Refusal.TheVariants.{NoReader, ReaderInUse, TooManyReaders, ReadFault, Damaged}
-use Rattle.rc_machine.specs.State.{State, Reader, unstored}
+use Rattle.rc_machine.specs.State.{State, Reader, rest_of}
 use Rattle.rc_machine.specs.Standing.{IsOver}
 use Rattle.rc_machine.specs.Steps.{IsSaid, most_readers, reader_with, reader_past, sealing}
 use Rattle.rc_machine.specs.Serving.{Takes}
+use Rattle.rc_machine.specs.laws.Reading.{rest_past}
 use Rattle.rc_folder.specs.laws.Sealing.{log_sealed, log_length as writes_in_all, sealing_is}
 use Rattle.rc_folder.specs.laws.Over.{over_reading, over_sealed, over_written}
 use Rattle.rc_plain.specs.Stands.{Keeping, Stands, rests}
@@ -40,46 +41,46 @@ use Rattle.rc_plain.proofs.Numbers.{joined_halves}
 
 -- ---- what readers have not given yet
 
-rests_lookup : (id : ℕ) (readers : List (ℕ × Reader)) → lookup (λ q. q == id) (rests readers) ≡ option_map (λ (r : Reader). r.rest) (lookup (λ q. q == id) readers)
+rests_lookup : (id : ℕ) (readers : List (ℕ × Reader)) → lookup (λ q. q == id) (rests readers) ≡ option_map rest_of (lookup (λ q. q == id) readers)
 rests_lookup id [] = refl
 rests_lookup id (r ∷ rs) =
-    elim (r.0 == id) as (λ b. cond b (Some r.1.rest) (lookup (λ q. q == id) (rests rs)) ≡ option_map (λ (r : Reader). r.rest) (cond b (Some r.1) (lookup (λ q. q == id) rs))) [
+    elim (r.0 == id) as (λ b. cond b (Some (rest_of r.1)) (lookup (λ q. q == id) (rests rs)) ≡ option_map rest_of (cond b (Some r.1) (lookup (λ q. q == id) rs))) [
       | true ↦ refl
       | false ↦ rests_lookup id rs
     ]
 
-not_there : (o : Option Reader) → option_map (λ (r : Reader). r.rest) o ≡ None → o ≡ None
+not_there : (o : Option Reader) → option_map rest_of o ≡ None → o ≡ None
 not_there None e = refl
 not_there (Some r) e = absurd (cc)
 
-there : (o : Option Reader) (rest : List OutLine) → option_map (λ (r : Reader). r.rest) o ≡ Some rest → (r : Reader) × (o ≡ Some r) × (r.rest ≡ rest)
+there : (o : Option Reader) (rest : List OutLine) → option_map rest_of o ≡ Some rest → (r : Reader) × (o ≡ Some r) × (rest_of r ≡ rest)
 there None rest e = absurd (cc)
 there (Some r) rest e = (r, refl, ap (λ (o : Option (List OutLine)). unwrap_or o []) e)
 
-rests_set : (id : ℕ) (readers : List (ℕ × Reader)) (r : Reader) → rests (set_value (λ q. q == id) readers r) ≡ set_value (λ q. q == id) (rests readers) r.rest
+rests_set : (id : ℕ) (readers : List (ℕ × Reader)) (r : Reader) → rests (set_value (λ q. q == id) readers r) ≡ set_value (λ q. q == id) (rests readers) (rest_of r)
 rests_set id [] r = refl
 rests_set id (x ∷ xs) r =
-    elim (x.0 == id) as (λ b. rests (cond b ((x.0, r) ∷ xs) (x ∷ set_value (λ q. q == id) xs r)) ≡ cond b ((x.0, r.rest) ∷ rests xs) ((x.0, x.1.rest) ∷ set_value (λ q. q == id) (rests xs) r.rest)) [
+    elim (x.0 == id) as (λ b. rests (cond b ((x.0, r) ∷ xs) (x ∷ set_value (λ q. q == id) xs r)) ≡ cond b ((x.0, rest_of r) ∷ rests xs) ((x.0, rest_of x.1) ∷ set_value (λ q. q == id) (rests xs) (rest_of r))) [
       | true ↦ refl
-      | false ↦ ap (λ rs. (x.0, x.1.rest) ∷ rs) (rests_set id xs r)
+      | false ↦ ap (λ rs. (x.0, rest_of x.1) ∷ rs) (rests_set id xs r)
     ]
 
 rests_filter : (id : ℕ) (readers : List (ℕ × Reader)) → rests (filter (λ reader. not (reader.0 == id)) readers) ≡ filter (λ reader. not (reader.0 == id)) (rests readers)
 rests_filter id [] = refl
 rests_filter id (x ∷ xs) =
-    elim (x.0 == id) as (λ b. rests (cond (not b) (x ∷ filter (λ reader. not (reader.0 == id)) xs) (filter (λ reader. not (reader.0 == id)) xs)) ≡ cond (not b) ((x.0, x.1.rest) ∷ filter (λ reader. not (reader.0 == id)) (rests xs)) (filter (λ reader. not (reader.0 == id)) (rests xs))) [
+    elim (x.0 == id) as (λ b. rests (cond (not b) (x ∷ filter (λ reader. not (reader.0 == id)) xs) (filter (λ reader. not (reader.0 == id)) xs)) ≡ cond (not b) ((x.0, rest_of x.1) ∷ filter (λ reader. not (reader.0 == id)) (rests xs)) (filter (λ reader. not (reader.0 == id)) (rests xs))) [
       | true ↦ rests_filter id xs
-      | false ↦ ap (λ rs. (x.0, x.1.rest) ∷ rs) (rests_filter id xs)
+      | false ↦ ap (λ rs. (x.0, rest_of x.1) ∷ rs) (rests_filter id xs)
     ]
 
 open_none : (files : Option Files) (k : Keeping) (m : State) (id : ℕ) → Stands files k m → lookup (λ q. q == id) k.readers ≡ None → lookup (λ q. q == id) m.readers ≡ None
 open_none files k m id s e = not_there (lookup (λ q. q == id) m.readers) (sym (rests_lookup id m.readers) ∙ ap (lookup (λ q. q == id)) s.readers ∙ e)
 
-open_some : (files : Option Files) (k : Keeping) (m : State) (id : ℕ) (rest : List OutLine) → Stands files k m → lookup (λ q. q == id) k.readers ≡ Some rest → (r : Reader) × (lookup (λ q. q == id) m.readers ≡ Some r) × (r.rest ≡ rest)
+open_some : (files : Option Files) (k : Keeping) (m : State) (id : ℕ) (rest : List OutLine) → Stands files k m → lookup (λ q. q == id) k.readers ≡ Some rest → (r : Reader) × (lookup (λ q. q == id) m.readers ≡ Some r) × (rest_of r ≡ rest)
 open_some files k m id rest s e = there (lookup (λ q. q == id) m.readers) rest (sym (rests_lookup id m.readers) ∙ ap (lookup (λ q. q == id)) s.readers ∙ e)
 
 count_is : (files : Option Files) (k : Keeping) (m : State) → Stands files k m → length m.readers ≡ length k.readers
-count_is files k m s = sym (length-map m.readers (λ (r : ℕ × Reader). (r.0, r.1.rest))) ∙ ap length s.readers
+count_is files k m s = sym (length-map m.readers (λ (r : ℕ × Reader). (r.0, rest_of r.1))) ∙ ap length s.readers
 
 -- the same with other readers
 abbrev pub reading : Keeping → Readers → Keeping
@@ -156,9 +157,9 @@ pub takes_open : (files : Option Files) (k : Keeping) (id : ℕ) (key : List ℕ
     → ((m : State) → Stands files k m → IsAnswer m key slice lines) → readers ≡ k.readers ++ (id, lines) ∷ [] → Takes Stands files k (OpenRead id key slice) replies.Fine files (reading k readers)
 takes_open files k id key slice lines readers e h answered more = λ m s.
     let said = answered m s in
-    let reader : Reader = reader_with m key slice (answer (said.0 ++ changes_to key (unstored m)) slice) in
+    let reader : Reader = reader_with m key slice said.0 in
     let given : List (ℕ × Reader) = m.readers ++ (id, reader) ∷ [] in
-    let left : rests given ≡ readers = map-append (λ (r : ℕ × Reader). (r.0, r.1.rest)) m.readers ((id, reader) ∷ []) ∙ (λ j. s.readers j ++ (id, sym said.2 j) ∷ []) ∙ sym more in
+    let left : rests given ≡ readers = map-append (λ (r : ℕ × Reader). (r.0, rest_of r.1)) m.readers ((id, reader) ∷ []) ∙ (λ j. s.readers j ++ (id, sym said.2 j) ∷ []) ∙ sym more in
     (record m { readers = given }, rw (open_none files k m id s e, few files k m s h) (inl (said.0, said.1, (refl, refl))), stands_reading files k m given readers left s)
 
 pub takes_no_read : (files : Option Files) (k : Keeping) (id count : ℕ) → lookup (λ q. q == id) k.readers ≡ None → Takes Stands files k (Read id count) (replies.Refused NoReader) files k
@@ -170,11 +171,12 @@ takes_read files k id count rest lines more readers e first left set = λ m s.
     let r = open_some files k m id rest s e in
     let past : Reader = reader_past count r.0 in
     let given : List (ℕ × Reader) = set_value (λ q. q == id) m.readers past in
-    let lines_are : lines ≡ take count r.0.rest = first ∙ ap (take count) (sym r.2) in
-    let more_is : more ≡ nat_lt count (length r.0.rest) = left ∙ ap (λ (l : List OutLine). nat_lt count (length l)) (sym r.2) in
-    let reply : replies.Given lines more ≡ replies.Given (take count r.0.rest) (nat_lt count (length r.0.rest)) = λ i. replies.Given (lines_are i) (more_is i) in
-    let kept : rests given ≡ readers = rests_set id m.readers past ∙ (λ i. set_value (λ q. q == id) (s.readers i) (drop count (r.2 i))) ∙ sym set in
-    (record m { readers = given }, rw r.1 (inl (reply, refl)), stands_reading files k m given readers kept s)
+    let lines_are : lines ≡ take count (rest_of r.0) = first ∙ ap (take count) (sym r.2) in
+    let more_is : more ≡ nat_lt count (length (rest_of r.0)) = left ∙ ap (λ (l : List OutLine). nat_lt count (length l)) (sym r.2) in
+    let reply : replies.Given lines more ≡ replies.Given (take count (rest_of r.0)) (nat_lt count (length (rest_of r.0))) = λ i. replies.Given (lines_are i) (more_is i) in
+    let left_is : rest_of past ≡ drop count rest = rest_past count r.0 ∙ ap (drop count) r.2 in
+    let kept : rests given ≡ readers = rests_set id m.readers past ∙ (λ i. set_value (λ q. q == id) (s.readers i) (left_is i)) ∙ sym set in
+    (record m { readers = given }, rw r.1 (inl (r.0.said, inl refl, (reply, refl))), stands_reading files k m given readers kept s)
 
 pub takes_no_close : (files : Option Files) (k : Keeping) (id : ℕ) → lookup (λ q. q == id) k.readers ≡ None → Takes Stands files k (Close id) (replies.Refused NoReader) files k
 takes_no_close files k id e = λ m s. (m, rw (open_none files k m id s e) (refl, refl), s)

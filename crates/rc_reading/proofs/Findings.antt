@@ -22,9 +22,9 @@ use Rattle.rc_core.specs.Plain.{no_mark}
 use Rattle.rc_core.specs.Slow.{spot_at}
 use Rattle.rc_core.specs.Version.{Ascend, Behind, On, Spot, Version, entry_answers, found, gap_ordering, seen, spot_cmp}
 use Rattle.rc_object.specs.Objects.{HoldsEntry}
-use Rattle.rc_version.specs.Versions.{HoldEntries, IsVersionOf}
-use Rattle.rc_version.specs.laws.Holding.{AreAround, IsAround, around, both-around, each-earlier, later-at, none-held}
-use Rattle.rc_version.specs.laws.Objects.{holds-stands}
+use Rattle.rc_partition.specs.Versions.{HoldEntries, IsVersionOf}
+use Rattle.rc_partition.specs.Holding.{AreAround, IsAround, around, both-around, each-earlier, later-at, none-held}
+use Rattle.rc_partition.specs.Objects.{holds-stands}
 
 -- ---- over entries
 

@@ -11,7 +11,7 @@ use Rattle.rc_cell.specs.Winner.{greatest}
 use Rattle.lsa_store.specs.declared.place.Ref.{Ref}
 use Rattle.lsa_region.specs.declared.end.Root.{Root}
 use Rattle.lsa_region.specs.Region.{View}
-use Rattle.lsa_list.specs.declared.recency.List.{List as Slots}
+use Rattle.rc_partition.specs.List.{List as Slots}
 use Rattle.rc_core.specs.Continuity.{version_tombs}
 use Rattle.rc_core.specs.laws.Folding.{through-append, under-above}
 use Rattle.rc_core.specs.laws.Losing.{tomb-alone}
@@ -19,7 +19,7 @@ use Rattle.rc_core.specs.laws.Merging.{alike-above, cons_is, tombs_by_parts}
 use Rattle.rc_core.specs.Merge.{Alike}
 use Rattle.rc_core.specs.SpotState.{SpotState, through, under}
 use Rattle.rc_core.specs.Version.{state_of}
-use Rattle.rc_version.specs.Versions.{IsVersionOf}
+use Rattle.rc_partition.specs.Versions.{IsVersionOf}
 use Rattle.rc_partition.specs.laws.Lists.{elem-here}
 use Rattle.rc_partition.specs.Partitions.{AreStanding, PartitionEntry, StandingVersion, among, partition_of}
 use Rattle.rc_reading.specs.declared.said.Asked.{Asked}

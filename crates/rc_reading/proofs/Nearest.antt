@@ -21,9 +21,9 @@ use Rattle.rc_core.specs.laws.Surgery.{back-above, each-of-both, front-below}
 use Rattle.rc_core.specs.Parts.{IsClear, IsNearer, IsReach, SomeHasEntryAt}
 use Rattle.rc_core.specs.Version.{Ascend, Version}
 use Rattle.rc_object.specs.Objects.{HoldsEntry, SpellsEntry}
-use Rattle.rc_version.specs.Versions.{HoldEntries, IsVersionOf}
-use Rattle.rc_version.specs.laws.Holding.{AreAround, IsAround, around, both-around, each-earlier, later-at, none-held}
-use Rattle.rc_version.specs.laws.Objects.{holds-stands}
+use Rattle.rc_partition.specs.Versions.{HoldEntries, IsVersionOf}
+use Rattle.rc_partition.specs.Holding.{AreAround, IsAround, around, both-around, each-earlier, later-at, none-held}
+use Rattle.rc_partition.specs.Objects.{holds-stands}
 use Rattle.rc_partition.specs.Partitions.{StandingVersion}
 use Rattle.rc_reading.specs.calls.Gaps.{IsNextBehind}
 use Rattle.rc_reading.specs.Reading.{read_versions}

@@ -1,3 +1,4 @@
 pub mod Reading
 pub mod laws
 pub mod calls
+pub use Rattle.rc_partition.specs.laws.Roots

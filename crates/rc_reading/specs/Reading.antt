@@ -8,7 +8,7 @@ use Rattle.rc_cell.specs.Winner.{empty_row}
 use Rattle.lsa_store.specs.declared.place.Ref.{Ref}
 use Rattle.lsa_region.specs.declared.end.Root.{Root}
 use Rattle.lsa_region.specs.Region.{View}
-use Rattle.lsa_list.specs.declared.recency.List.{List as Slots}
+use Rattle.rc_partition.specs.List.{List as Slots}
 use Rattle.rc_core.specs.Version.{Version}
 use Rattle.rc_partition.specs.Partitions.{AreStanding, PartitionEntry, StandingVersion, among}
 

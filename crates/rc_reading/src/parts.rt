@@ -8,7 +8,7 @@ ghost use Rattle.rc_core.specs.declared.entries.Entry.{Entry};
 ghost use Rattle.rc_core.specs.Parts.{IsFirstPart, IsNearer, IsReach};
 ghost use Rattle.rc_core.specs.Version.{Version};
 ghost use Rattle.rc_object.specs.Objects.{HoldsEntry};
-ghost use Rattle.rc_version.specs.Versions.{IsVersionOf};
+ghost use Rattle.rc_partition.specs.Versions.{IsVersionOf};
 ghost use Rattle.rc_partition.specs.Partitions.{StandingVersion};
 ghost use Rattle.rc_reading.specs.Reading.{AreUpTo, read_versions};
 ghost use Rattle.rc_reading.specs.calls.Gaps.{IsGapEnd, IsNextBehind};

@@ -9,7 +9,7 @@ ghost use Rattle.rc_core.specs.Change.{mark};
 ghost use Rattle.rc_core.specs.Slow.{spot_at};
 ghost use Rattle.rc_core.specs.Version.{Behind, Version, found, seen};
 ghost use Rattle.rc_object.specs.Objects.{HoldsEntry};
-ghost use Rattle.rc_version.specs.Versions.{IsVersionOf};
+ghost use Rattle.rc_partition.specs.Versions.{IsVersionOf};
 ghost use Rattle.rc_reading.specs.calls.Reading.{IsFindingRead, IsRowRead, finding_at};
 
 use lsa_kinds::Kind;
@@ -18,9 +18,9 @@ use lsa_tree::{Place, Tree};
 use rc_cell::Row;
 use rc_core::{Flag, Mark, Side};
 use rc_object::{head_of, marks, row_code};
+use rc_partition::static_row;
 use rc_position::Pos;
 use rc_rowcode::read_row;
-use rc_version::static_row;
 use std::alloc::{AllocError, Global};
 
 /// A place that is asked for in each version.

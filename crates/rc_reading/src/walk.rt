@@ -8,7 +8,7 @@ ghost use Rattle.rc_core.specs.Merge.{Alike};
 ghost use Rattle.rc_core.specs.Slow.{seen_state};
 ghost use Rattle.rc_core.specs.SpotState.{through, under};
 ghost use Rattle.rc_core.specs.Version.{Version, state_of};
-ghost use Rattle.rc_version.specs.Versions.{IsVersionOf};
+ghost use Rattle.rc_partition.specs.Versions.{IsVersionOf};
 ghost use Rattle.rc_partition.specs.Partitions.{StandingVersion};
 ghost use Rattle.rc_reading.specs.Reading.{AreUpTo, read_versions};
 ghost use Rattle.rc_reading.specs.calls.Reading.{finding_at, states_read};

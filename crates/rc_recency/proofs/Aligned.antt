@@ -18,7 +18,7 @@ use Rattle.rc_core.specs.declared.entries.Mark.{Mark}
 use Rattle.rc_object.specs.Objects.{HoldsEntry}
 use Rattle.rc_version.specs.Versions.{HoldEntries}
 use Rattle.rc_version.specs.laws.Objects.{holds-stands}
-use Rattle.rc_partition.specs.laws.Lists.{elem-cases, elem-first, elem-here, elem-later, elem-none}
+use Rattle.rc_memory.specs.Lists.{elem-cases, elem-first, elem-here, elem-later, elem-none}
 
 -- each object stands at the position beside it
 abbrev pub StandBeside : View → List Ref → List Pos → Type 0

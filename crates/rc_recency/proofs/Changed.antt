@@ -8,7 +8,7 @@ use Rattle.lsa_region.specs.Region.{View, IsSummed, IsWell}
 use Rattle.lsa_list.specs.declared.recency.List.{List as Slots}
 use Rattle.rc_core.specs.Version.{Version}
 use Rattle.rc_version.specs.Versions.{IsKeptBut, IsVersionOf, IsWeighed}
-use Rattle.rc_partition.specs.Partitions.{StandingVersion, partition_of, standing}
+use Rattle.rc_memory.specs.Partitions.{StandingVersion, partition_of, standing}
 use Rattle.rc_registry.specs.Registry.{Registry, put}
 use Rattle.rc_memory.specs.declared.counts.Counts.{Counts}
 use Rattle.rc_memory.specs.Memory.{KeptChain, Member, Memory, IsMemberObject, IsOfVersion, on_chain, on_shown, on_version_of, version_changed}

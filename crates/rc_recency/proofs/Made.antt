@@ -14,8 +14,8 @@ use Rattle.rc_core.specs.Steps.{row_joined}
 use Rattle.rc_core.specs.Version.{Version}
 use Rattle.rc_version.specs.Versions.{ArePutAmong, ArePutOrExchanged, IsJoined, IsKeptBut, IsSplit, IsStaticsOf, IsVersionOf, IsWeighed}
 use Rattle.rc_version.specs.laws.Found.{held-has}
-use Rattle.rc_partition.specs.Partitions.{standing}
-use Rattle.rc_partition.specs.laws.Lists.{elem-here, elem-split, elem-still}
+use Rattle.rc_memory.specs.Partitions.{standing}
+use Rattle.rc_memory.specs.Lists.{elem-here, elem-split, elem-still}
 use Rattle.rc_registry.specs.Registry.{Registry}
 use Rattle.rc_memory.specs.declared.counts.Counts.{Counts}
 use Rattle.rc_memory.specs.Memory.{KeptChain, Member, Memory, IsMemberObject, IsOfVersion}

@@ -12,8 +12,8 @@ use Rattle.rc_core.specs.declared.entries.ChainKind.{ChainKind}
 use Rattle.rc_core.specs.declared.entries.ChainKind.TheVariants.{Cache, Memtable}
 use Rattle.rc_core.specs.Version.{Version}
 use Rattle.rc_version.specs.Versions.{IsUnlisted}
-use Rattle.rc_partition.specs.laws.Apart.{row-recency}
-use Rattle.rc_partition.specs.laws.Lists.{elem-here, elem-split}
+use Rattle.rc_memory.specs.Apart.{row-recency}
+use Rattle.rc_memory.specs.Lists.{elem-here, elem-split}
 use Rattle.rc_registry.specs.Registry.{Registry}
 use Rattle.rc_memory.specs.declared.counts.Counts.{Counts}
 use Rattle.rc_memory.specs.Memory.{KeptChain, Member, Memory, IsMemberObject, IsObjectAt, listed_as}

@@ -13,7 +13,7 @@ use Rattle.rc_core.specs.Version.{Version}
 use Rattle.rc_object.specs.Objects.{HasRoomFor}
 use Rattle.rc_version.specs.Versions.{IsEntryFound, IsSplit, IsUnlisted, IsVersionOf}
 use Rattle.rc_version.specs.laws.Found.{split-standing}
-use Rattle.rc_partition.specs.Partitions.{standing}
+use Rattle.rc_memory.specs.Partitions.{standing}
 use Rattle.rc_registry.specs.Registry.{Registry}
 use Rattle.rc_memory.specs.declared.counts.Counts.{Counts}
 use Rattle.rc_memory.specs.Memory.{KeptChain, Member, Memory, IsMemberObject, IsOfVersion, listed_as}

@@ -23,7 +23,7 @@ use Rattle.rc_unstored.specs.Memtables.{HaveWrites}
 use Rattle.rc_unstored.specs.Readers.{IsNoneOf}
 use Rattle.rc_opened.specs.declared.opened.Opened.{Opened}
 use Rattle.rc_opened.specs.Opened.{AreChangesOf, snaps_of}
-use Rattle.rc_machine.specs.State.{Reader, State, unstored}
+use Rattle.rc_machine.specs.State.{Reader, State, rest_of, unstored}
 use Rattle.rc_machine.specs.Steps.{reader_with}
 use Rattle.rc_shard.specs.declared.shard.Shard.{Shard}
 use Rattle.rc_shard.specs.Stands.{AreOfTwo, IsServed, Stands}
@@ -75,7 +75,7 @@ module _ (lines : Opened → Memory → List OutLine → Type 0) (stays : (o : O
       ((schema : SchemaValue) (writes later : List Write) (said : List Mutation) → HaveWrites schema k.unstored writes later → IsJoinOf join said → AreChangesOf schema (changes_to key writes) → AreChangesOf schema (changes_to key later) →
       lines x k'.unstored.chains (answer (said ++ (changes_to key writes ++ changes_to key later)) slice)) →
       AreThere k'.unstored.chains (snaps_of x) → AreOfTwo (snaps_of x) → ((s : Snap) → HasPin k.unstored.chains s.chain s.pin → IsNoneOf (snaps_of x) s) →
-      (m : State) (said : List Mutation) → Stands lines files k m → IsJoinOf join said → Stands lines files k' (record m { readers = m.readers ++ (id, reader_with m key slice (answer (said ++ changes_to key (unstored m)) slice)) ∷ [] })
+      (m : State) (said : List Mutation) → Stands lines files k m → IsJoinOf join said → Stands lines files k' (record m { readers = m.readers ++ (id, reader_with m key slice said) ∷ [] })
   opens-reader files k k' id key slice join x both unused folder segs items kept gives there two fresh m said s j =
       let schema : SchemaValue = k.folder.schema in
       let stays-in = kept schema in
@@ -83,9 +83,9 @@ module _ (lines : Opened → Memory → List OutLine → Type 0) (stays : (o : O
       let fit : All (λ w. CommandFits schema (Put w)) m.log = subst (λ (t : SchemaValue). All (λ w. CommandFits t (Put w)) m.log) s.over.schema s.over.fit in
       let goods = unstored-goods schema m h.sealed h.later s.sound.mutations fit h.are in
       let split : changes_to key h.sealed ++ changes_to key h.later ≡ changes_to key (unstored m) = sym (both h.sealed h.later) ∙ ap (changes_to key) h.are in
-      let r : Reader = reader_with m key slice (answer (said ++ changes_to key (unstored m)) slice) in
+      let r : Reader = reader_with m key slice said in
       let given : List (ℕ × Reader) = m.readers ++ (id, r) ∷ [] in
-      let left : lines x k'.unstored.chains r.rest = subst (λ (cs : List Mutation). lines x k'.unstored.chains (answer (said ++ cs) slice)) split (gives schema h.sealed h.later said h.have j (changes-good schema key h.sealed goods.0) (changes-good schema key h.later goods.1)) in
+      let left : lines x k'.unstored.chains (rest_of r) = subst (λ (cs : List Mutation). lines x k'.unstored.chains (answer (said ++ cs) slice)) split (gives schema h.sealed h.later said h.have j (changes-good schema key h.sealed goods.0) (changes-good schema key h.later goods.1)) in
       let old = all-served lines stays k.unstored.chains k'.unstored.chains k.readers.items m.readers stays-in.seen s.served in
       let new : IsServed lines k'.unstored.chains (id, x) (id, r) = record { id = refl; left = left; there = there; chains = two } in
       let served = more-served lines k'.unstored.chains (id, x) (id, r) k.readers.items m.readers old new in

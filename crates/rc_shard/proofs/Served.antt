@@ -14,7 +14,7 @@ use Rattle.rc_snapshots.specs.laws.Seeing.{both-still, there-then}
 use Rattle.rc_unstored.specs.Readers.{IsNoneOf}
 use Rattle.rc_opened.specs.declared.opened.Opened.{Opened}
 use Rattle.rc_opened.specs.Opened.{snaps_of}
-use Rattle.rc_machine.specs.State.{Reader}
+use Rattle.rc_machine.specs.State.{Reader, rest_of}
 use Rattle.rc_shard.specs.Stands.{AreOfTwo, AreTwo, IsServed, ShareNone, holding}
 use Rattle.rc_shard.proofs.Places.{IsNowhere, IsPlace, in-range}
 
@@ -128,7 +128,7 @@ module _ (lines : Opened → Memory → List OutLine → Type 0) where
   pub record IsFound (m : Memory) (id : ℕ) (o : ℕ × Opened) (rs : List (ℕ × Reader)) : Type 0 where
     pub reader : Reader
     pub found : lookup (λ q. q == id) rs ≡ Some reader
-    pub left : lines o.1 m reader.rest
+    pub left : lines o.1 m (rest_of reader)
     pub there : AreThere m (snaps_of o.1)
     pub chains : AreOfTwo (snaps_of o.1)
 
@@ -156,7 +156,7 @@ module _ (lines : Opened → Memory → List OutLine → Type 0) where
 
   module _ (stays : (o : Opened) (m n : Memory) (ls : List OutLine) → StillSeeBoth (snaps_of o) m n → lines o m ls → lines o n ls) where
     pub still-served : (m n : Memory) (o : ℕ × Opened) (r : ℕ × Reader) → StillSeeBoth (snaps_of o.1) m n → IsServed lines m o r → IsServed lines n o r
-    still-served m n o r sees h = record { id = h.id; left = stays o.1 m n r.1.rest sees h.left; there = there-then m n (snaps_of o.1) h.there sees; chains = h.chains }
+    still-served m n o r sees h = record { id = h.id; left = stays o.1 m n (rest_of r.1) sees h.left; there = there-then m n (snaps_of o.1) h.there sees; chains = h.chains }
 
     pub all-served : (m n : Memory) (os : List (ℕ × Opened)) (rs : List (ℕ × Reader)) → AllStillSee m n → AllZip (IsServed lines m) os rs → AllZip (IsServed lines n) os rs
     all-served m n [] [] sees h = tt
@@ -195,7 +195,7 @@ module _ (lines : Opened → Memory → List OutLine → Type 0) where
 
   -- ---- one gave lines
 
-  pub set-served : (m : Memory) (id at : ℕ) (d x : ℕ × Opened) (past : Reader) (os : List (ℕ × Opened)) (rs : List (ℕ × Reader)) → x.0 ≡ (get_or os at d).0 → lines x.1 m past.rest → AreThere m (snaps_of x.1) → AreOfTwo (snaps_of x.1) → IsPlace id os at →
+  pub set-served : (m : Memory) (id at : ℕ) (d x : ℕ × Opened) (past : Reader) (os : List (ℕ × Opened)) (rs : List (ℕ × Reader)) → x.0 ≡ (get_or os at d).0 → lines x.1 m (rest_of past) → AreThere m (snaps_of x.1) → AreOfTwo (snaps_of x.1) → IsPlace id os at →
       AllZip (IsServed lines m) os rs → AllZip (IsServed lines m) (set os at x) (set_value (λ q. q == id) rs past)
   set-served m id at d x past [] rs same left there chains p h = absurd p
   set-served m id at d x past (o ∷ os) [] same left there chains p h = absurd h
@@ -214,7 +214,7 @@ module _ (lines : Opened → Memory → List OutLine → Type 0) where
   set-kept m id at d x [] rs same left snaps p h = absurd p
   set-kept m id at d x (o ∷ os) [] same left snaps p h = absurd h
   set-kept m id zero d x (o ∷ os) (r ∷ rs) same left snaps p h =
-      (record { id = same ∙ h.0.id; left = left r.1.rest h.0.left; there = subst (AreThere m) (sym snaps) h.0.there; chains = subst AreOfTwo (sym snaps) h.0.chains }, h.1)
+      (record { id = same ∙ h.0.id; left = left (rest_of r.1) h.0.left; there = subst (AreThere m) (sym snaps) h.0.there; chains = subst AreOfTwo (sym snaps) h.0.chains }, h.1)
   set-kept m id (suc at) d x (o ∷ os) (r ∷ rs) same left snaps p h = (h.0, set-kept m id at d x os rs same left snaps p.1 h.1)
 
   -- ---- one more

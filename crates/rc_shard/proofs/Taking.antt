@@ -11,9 +11,8 @@ use Rattle.rc_schema.specs.SchemaValue.{SchemaValue}
 use Rattle.rc_writes.specs.Weight.{weight}
 use Rattle.rc_mutation.specs.declared.mutations.Mutation.{Mutation}
 use Rattle.rc_mutation.specs.declared.mutations.Write.{Write}
-use Rattle.rc_mutation.specs.Source.{IsJoinOf, IsMutation, changes_to}
+use Rattle.rc_mutation.specs.Source.{IsJoinOf, IsMutation}
 use Rattle.rc_query.specs.declared.lines.OutLine.{OutLine}
-use Rattle.rc_query.specs.Answer.{answer}
 use Rattle.rc_outside.specs.Faults.{Rose}
 use Rattle.rc_stream.specs.Causes.{Caused}
 use Rattle.rc_stream.specs.declared.streams.StreamErr.{StreamErr}
@@ -34,10 +33,11 @@ use Rattle.rc_unstored.specs.Memtables.{HaveWrites}
 use Rattle.rc_unstored.specs.Readers.{IsNoneOf}
 use Rattle.rc_opened.specs.declared.opened.Opened.{Opened}
 use Rattle.rc_opened.specs.Opened.{snaps_of}
-use Rattle.rc_machine.specs.State.{Reader, State, unstored}
+use Rattle.rc_machine.specs.State.{Reader, State, rest_of}
 use Rattle.rc_machine.specs.Standing.{IsOver}
 use Rattle.rc_machine.specs.Steps.{IsSaid, most_readers, reader_past, reader_with}
 use Rattle.rc_machine.specs.Serving.{FaultsAreCounted, OnFaulty, Takes}
+use Rattle.rc_machine.specs.laws.Reading.{rest_past}
 use Rattle.rc_shard.specs.declared.shard.Shard.{Shard}
 use Rattle.rc_shard.specs.Stands.{AreFor, AreOfTwo, Stands}
 use Rattle.rc_memtable.specs.LetGo.{TakesNoMore}
@@ -139,11 +139,11 @@ module _ (lines : Opened → Memory → List OutLine → Type 0) where
 
   pub takes-open : (files : Option Files) (k k' : Shard) (id : ℕ) (key : List ℕ) (slice : Slice) (join : Mutation) → IsNowhere id k.readers.items → length k.readers.items < most_readers →
       ((m : State) → IsOver files k.folder.schema k.folder.infos m → (said : List Mutation) × IsSaid m key said × IsJoinOf join said) →
-      ((m : State) (said : List Mutation) → Stands lines files k m → IsJoinOf join said → Stands lines files k' (record m { readers = m.readers ++ (id, reader_with m key slice (answer (said ++ changes_to key (unstored m)) slice)) ∷ [] })) →
+      ((m : State) (said : List Mutation) → Stands lines files k m → IsJoinOf join said → Stands lines files k' (record m { readers = m.readers ++ (id, reader_with m key slice said) ∷ [] })) →
       Takes (Stands lines) files k (OpenRead id key slice) replies.Fine files k'
   takes-open files k k' id key slice join none h said made = λ m s.
       let all = said m s.over in (
-        record m { readers = m.readers ++ (id, reader_with m key slice (answer (all.0 ++ changes_to key (unstored m)) slice)) ∷ [] },
+        record m { readers = m.readers ++ (id, reader_with m key slice all.0) ∷ [] },
         rw (look-none lines k.unstored.chains id k.readers.items m.readers s.served none, few-open files k m s h) (inl (all.0, all.1, (refl, refl))),
         made m all.0 s all.2,
       )
@@ -151,7 +151,7 @@ module _ (lines : Opened → Memory → List OutLine → Type 0) where
   -- what was answered of an opening
   pub opened-of : (files files' : Option Files) (k k' : Shard) (id : ℕ) (key : List ℕ) (slice : Slice) (join : Mutation) (r : Result Reply AllocError) → files' ≡ files → IsNowhere id k.readers.items → length k.readers.items < most_readers →
       ((m : State) → IsOver files k.folder.schema k.folder.infos m → (said : List Mutation) × IsSaid m key said × IsJoinOf join said) → IfOk r (λ reply. reply ≡ replies.Fine) →
-      ((m : State) (said : List Mutation) → Stands lines files k m → IsJoinOf join said → IfOk r (λ _. Stands lines files k' (record m { readers = m.readers ++ (id, reader_with m key slice (answer (said ++ changes_to key (unstored m)) slice)) ∷ [] }))) →
+      ((m : State) (said : List Mutation) → Stands lines files k m → IsJoinOf join said → IfOk r (λ _. Stands lines files k' (record m { readers = m.readers ++ (id, reader_with m key slice said) ∷ [] }))) →
       IfOk r (λ reply. Takes (Stands lines) files k (OpenRead id key slice) reply files' k')
   opened-of files files' k k' id key slice join (Ok reply) still none few said fine made =
       subst (λ q. Takes (Stands lines) files k (OpenRead id key slice) q files' k') (sym fine) (to-files files k k' files' (OpenRead id key slice) replies.Fine still (takes-open files k k' id key slice join none few said made))
@@ -165,16 +165,17 @@ module _ (lines : Opened → Memory → List OutLine → Type 0) where
       let f = found-at files k m id at d s p here in
       let r : Reader = f.reader in
       let given : List (ℕ × Reader) = set_value (λ q. q == id) m.readers (reader_past count r) in
-      let reply : replies.Given gave more ≡ replies.Given (take count r.rest) (nat_lt count (length r.rest)) = λ i. replies.Given (first r.rest f.left i) (left r.rest f.left i) in
+      let reply : replies.Given gave more ≡ replies.Given (take count (rest_of r)) (nat_lt count (length (rest_of r))) = λ i. replies.Given (first (rest_of r) f.left i) (left (rest_of r) f.left i) in
       let chains : k'.unstored.chains ≡ k.unstored.chains = ap (λ u. u.chains) unst in
-      let given-lines : lines x.1 k.unstored.chains (drop count r.rest) = subst (λ (mem : Memory). lines x.1 mem (drop count r.rest)) chains (rest r.rest f.left) in
+      let later : lines x.1 k.unstored.chains (drop count (rest_of r)) = subst (λ (mem : Memory). lines x.1 mem (drop count (rest_of r))) chains (rest (rest_of r) f.left) in
+      let given-lines : lines x.1 k.unstored.chains (rest_of (reader_past count r)) = subst (lines x.1 k.unstored.chains) (sym (rest_past count r)) later in
       let there : AreThere k.unstored.chains (snaps_of x.1) = subst (AreThere k.unstored.chains) (sym snaps) f.there in
       let two : AreOfTwo (snaps_of x.1) = subst AreOfTwo (sym snaps) f.chains in
       let served = set-served lines k.unstored.chains id at d x (reader_past count r) k.readers.items m.readers (same ∙ ap (λ (o : ℕ × Opened). o.0) (sym here)) given-lines there two p s.served in
       let pairs = same-two id at d x k.readers.items p (same ∙ ap (λ (o : ℕ × Opened). o.0) (sym here)) (snaps ∙ ap (λ (o : ℕ × Opened). snaps_of o.1) (sym here)) s.two in
       let stands = reading-for lines files k.folder k.unstored k.unstored k.readers.items (set k.readers.items at x) k.segments m given (λ writes later h. h) (no-more-same k.unstored.chains k.unstored.chains refl) served pairs s in (
         record m { readers = given },
-        rw (f.found) (inl (reply, refl)),
+        rw (f.found) (inl (r.said, inl refl, (reply, refl))),
         moved files k k' k.unstored (set k.readers.items at x) (record m { readers = given }) folder unst segs items stands,
       )
 

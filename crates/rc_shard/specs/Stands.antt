@@ -29,7 +29,7 @@ use Rattle.rc_unstored.specs.Readers.{IsNoneOf}
 use Rattle.rc_opened.specs.declared.opened.Opened.{Opened}
 use Rattle.rc_opened.specs.Opened.{snaps_of}
 use Rattle.rc_folder.specs.Tabled.{Tabled}
-use Rattle.rc_machine.specs.State.{Reader, State, unstored}
+use Rattle.rc_machine.specs.State.{Reader, State, rest_of, unstored}
 use Rattle.rc_machine.specs.Standing.{IsOver}
 use Rattle.rc_shard.specs.declared.shard.Shard.{Shard}
 
@@ -69,7 +69,7 @@ module _ (lines : Opened → Memory → List OutLine → Type 0) where
   -- an open reader with its id is that of the machine: it is left what that one has not given yet; its snapshots are there, and of two chains
   pub record IsServed (memory : Memory) (o : ℕ × Opened) (r : ℕ × Reader) : Type 0 where
     pub id : o.0 ≡ r.0
-    pub left : lines o.1 memory r.1.rest
+    pub left : lines o.1 memory (rest_of r.1)
     pub there : AreThere memory (snaps_of o.1)
     pub chains : AreOfTwo (snaps_of o.1)
 

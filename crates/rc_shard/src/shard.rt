@@ -19,7 +19,7 @@ ghost use Rattle.rc_tables.specs.Tables.{listing};
 ghost use Rattle.rc_lines.specs.Fits.{CommandFits};
 ghost use Rattle.rc_machine.specs.Built.{is_built};
 ghost use Rattle.rc_machine.specs.Serving.{FaultsAreCounted, OnFaulty, Stops, Takes, checks_of, most_asks};
-ghost use Rattle.rc_machine.specs.State.{State, Table, opened_state, unstored};
+ghost use Rattle.rc_machine.specs.State.{State, Table, opened_state};
 ghost use Rattle.rc_machine.specs.Tables.{AreListed, AreTables};
 ghost use Rattle.rc_machine.specs.Steps.{reader_with};
 ghost use Rattle.rc_tfile.specs.declared.info.TableInfo.{TableInfo};
@@ -302,7 +302,7 @@ impl Shard {
         ensures fine { IfOk result (λ reply. reply ≡ Reply.Fine) }
         ensures pins { IfOk result (λ _. IsOnePinned id key.now self.old.readers.items self.old.unstored self.new.readers.items self.new.unstored) }
         ensures opened { (files : Option Files) (m : State) (said : List Change) → ⟦<Shard as Machine>⟧.stands files self.old m → IsJoinOf tables.now said →
-            IfOk result (λ _. ⟦<Shard as Machine>⟧.stands files self.new (record m { readers = m.readers ++ (id, reader_with m key.now slice.now (answer (said ++ changes_to key.now (unstored m)) slice.now)) ∷ [] })) }
+            IfOk result (λ _. ⟦<Shard as Machine>⟧.stands files self.new (record m { readers = m.readers ++ (id, reader_with m key.now slice.now said) ∷ [] })) }
         ensures err { OnErr result (Keeps ⟦<Shard as Machine>⟧.stands self.old self.new) }
         ensures counts { CountsStay self.old self.new }
     {

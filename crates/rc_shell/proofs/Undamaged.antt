@@ -80,7 +80,7 @@ module _ (m : State) (files : Files) (told : m.files ≡ Some files) (reply : Re
   tries id key slice (Some r) b s = is (Refused ReaderInUse) tt s.0
 
   gives : (id count : ℕ) (r : Reader) → Gives m id count r reply new → IsSound reply
-  gives id count r (inl s) = is (Given _ _) tt s.0
+  gives id count r (inl s) = is (Given _ _) tt s.2.0
   gives id count r (inr (inl s)) = is (Refused ReadFault) tt s.0
   gives id count r (inr (inr s)) = absurd (not_told s.2)
 

@@ -3,7 +3,7 @@ use Rattle.std.specs.Prelude.{◌≡◌, ◌↔◌, ⊤, Bool}
 use Rattle.std.proofs.Common.{refl, sym, ap, ◌∙◌, subst, inl, inr, arith}
 use Rattle.rc_position.specs.declared.positions.Pos.{Pos}
 use Rattle.rc_mutation.specs.declared.fragments.HeadAt.{HeadAt}
-use Rattle.rc_memory.specs.Memory.{HasPin, Memory}
+use Rattle.rc_cursor.specs.Memory.{HasPin, Memory}
 use Rattle.rc_stream.specs.Did.{Call, InTurn}
 use Rattle.rc_stream.specs.Snapshot.{There}
 use Rattle.rc_stream.specs.Stream.{Stream}

@@ -13,8 +13,8 @@ use Rattle.rc_core.specs.Chain.{IsKnown, base, content, flagged, flagged_from, n
 use Rattle.rc_core.specs.Chains.{AllInherit}
 use Rattle.rc_core.specs.Continuity.{EachOf, static_states}
 use Rattle.rc_core.specs.Version.{On, Version, end_position, static_state}
-use Rattle.rc_memory.specs.Memory.{HasPin, Memory}
-use Rattle.rc_chain.specs.declared.chains.Snap.{Snap}
+use Rattle.rc_cursor.specs.Memory.{HasPin, Memory}
+use Rattle.rc_cursor.specs.Snap.{Snap}
 use Rattle.rc_stream.specs.Snapshot.{SayThere, There}
 use Rattle.rc_stream.specs.Stream.{Stream, stream_of}
 use Rattle.rc_cursor.specs.declared.readers.SnapshotReader.{SnapshotReader}

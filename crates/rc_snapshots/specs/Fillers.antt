@@ -11,7 +11,7 @@ use Rattle.rc_core.specs.Chain.{content, flagged}
 use Rattle.rc_core.specs.Continuity.{static_states, version_tombs}
 use Rattle.rc_core.specs.declared.entries.ChainKind.{ChainKind}
 use Rattle.rc_core.specs.Version.{Version}
-use Rattle.rc_memory.specs.Memory.{HasPin, Memory, chain_at}
+use Rattle.rc_cursor.specs.Memory.{HasPin, Memory, chain_at}
 use Rattle.rc_mutation.specs.declared.mutations.Mutation.{Mutation}
 use Rattle.rc_mutation.specs.Source.{source_at_head, source_at_static}
 use Rattle.rc_stream.specs.Snapshot.{SayThere, There}

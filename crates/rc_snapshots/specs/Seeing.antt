@@ -9,8 +9,8 @@
 use Rattle.std.specs.Prelude.{◌≡◌, List, [], Option, Some, None, IfSome}
 use Rattle.rc_mutation.specs.declared.mutations.Mutation.{Mutation}
 use Rattle.rc_core.specs.declared.entries.ChainKind.TheVariants.{Memtable}
-use Rattle.rc_memory.specs.Memory.{HasPin, Memory}
-use Rattle.rc_chain.specs.declared.chains.Snap.{Snap}
+use Rattle.rc_cursor.specs.Memory.{HasPin, Memory}
+use Rattle.rc_cursor.specs.Snap.{Snap}
 use Rattle.rc_cursor.specs.Snapshots.{kind_seen, versions_seen}
 use Rattle.rc_snapshots.specs.declared.snaps.Snaps.{Snaps}
 use Rattle.rc_snapshots.specs.Streams.{SeesChanges}

@@ -12,8 +12,8 @@ use Rattle.rc_core.specs.Chains.{AllInherit}
 use Rattle.rc_core.specs.Continuity.{EachOf}
 use Rattle.rc_core.specs.StandsFor.{StandsFor}
 use Rattle.rc_core.specs.Version.{end_position}
-use Rattle.rc_memory.specs.Memory.{HasPin, Memory}
-use Rattle.rc_chain.specs.declared.chains.Snap.{Snap}
+use Rattle.rc_cursor.specs.Memory.{HasPin, Memory}
+use Rattle.rc_cursor.specs.Snap.{Snap}
 use Rattle.rc_stream.specs.Stream.{Stream, stream_of}
 use Rattle.rc_cursor.specs.declared.readers.SnapshotReader.{SnapshotReader}
 use Rattle.rc_cursor.specs.Snapshots.{IsReadable, kind_seen, versions_seen}

@@ -2,7 +2,7 @@
 ghost use Rattle.std.specs.Prelude.{◌≡◌};
 
 use rc_cell::{Row, Tomb};
-use rc_chain::{Chains, Snap};
+use rc_cursor::{Chains, Snap};
 use rc_position::{Key, Pos};
 use rc_stream::{Fill, Filler};
 

@@ -6,8 +6,8 @@ ghost use Rattle.rc_mutation.specs.declared.mutations.Mutation.{Mutation};
 ghost use Rattle.rc_mutation.specs.Fragments.{fragments};
 ghost use Rattle.rc_mutation.specs.Source.{IsMutation, SameSource, source_at_head, source_at_static};
 ghost use Rattle.rc_core.specs.Version.{end_position};
-ghost use Rattle.rc_memory.specs.Memory.{HasPin, Memory};
-ghost use Rattle.rc_chain.specs.declared.chains.Snap.{Snap as Snapshot};
+ghost use Rattle.rc_cursor.specs.Memory.{HasPin, Memory};
+ghost use Rattle.rc_cursor.specs.Snap.{Snap as Snapshot};
 ghost use Rattle.rc_stream.specs.Did.{Call, IsQuiet, Spends};
 ghost use Rattle.rc_stream.specs.Snapshot.{SayThere};
 ghost use Rattle.rc_stream.specs.Stream.{Stream, stream_of};
@@ -22,9 +22,9 @@ ghost use Rattle.rc_snapshots.specs.Seeing.{AllStillSee, AreSameSnapshots, AreTh
 
 use crate::fillers::NoFiller;
 use rc_cacheread::CacheReader;
-use rc_chain::Chains;
 use rc_core::laws::memtables::a_memtable_is_known_everywhere;
-use rc_cursor::SnapshotReader;
+pub use rc_cursor::laws::a_snapshot_can_be_read;
+use rc_cursor::{Chains, SnapshotReader};
 use rc_outside::Store;
 use rc_stream::laws::the_stream_of_a_mutation;
 use rc_stream::{Frags, ListFrags};

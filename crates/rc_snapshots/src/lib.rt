@@ -7,5 +7,6 @@ mod snaps;
 mod streams;
 
 pub use fillers::NoFiller;
+pub use rc_cursor::{Chains, Snap};
 pub use snaps::Snaps;
 pub use streams::{SnapshotStream, snapshot_stream};

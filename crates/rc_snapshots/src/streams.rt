@@ -4,8 +4,7 @@ ghost use Rattle.rc_snapshots.specs.Streams.{IsNewStream};
 
 use crate::fillers::NoFiller;
 use rc_cacheread::CacheReader;
-use rc_chain::Snap;
-use rc_cursor::SnapshotReader;
+use rc_cursor::{Snap, SnapshotReader};
 use rc_mutation::FragList;
 use rc_position::{Key, Pos, Slice, Weight};
 use rc_stream::ListFrags;

@@ -14,7 +14,7 @@ use Rattle.rc_mutation.specs.declared.mutations.Write.{Write}
 use Rattle.rc_core.specs.Chains.{IsPinned}
 use Rattle.rc_memory.specs.Memory.{IsUntouched, KeptChain, Memory, chain_at, under_new_names}
 use Rattle.rc_memory.specs.laws.Places.{no_some, same_some}
-use Rattle.rc_chain.specs.Lives.{IsSameButSlots}
+use Rattle.rc_evict.specs.Lives.{IsSameButSlots}
 use Rattle.rc_evict.specs.Evictions.{IsRoomMade}
 use Rattle.rc_memtable.specs.Steps.{IsApplied}
 use Rattle.rc_memtable.specs.Writes.{HasWrites, IsRoomFor, TakesVersion, chain_of}

@@ -13,7 +13,7 @@ use Rattle.rc_core.specs.Steps.{pin_at}
 use Rattle.rc_core.specs.Version.{Version}
 use Rattle.rc_core.specs.laws.Pins.{pin-is-pinned, pinned-by-number}
 use Rattle.rc_memory.specs.Memory.{KeptChain, Memory, chain_at}
-use Rattle.rc_cursor.specs.Snapshots.{versions_upto}
+use Rattle.rc_snapshots.specs.Snapshots.{versions_upto}
 use Rattle.rc_memtable.specs.Changes.{KeepsChanges}
 use Rattle.rc_memtable.specs.Fits.{IsVersionUnder}
 use Rattle.rc_memtable.specs.Partitions.{AreAsBefore, IsAsBefore}

@@ -10,7 +10,7 @@ use Rattle.rc_writes.specs.Weight.{weight}
 use Rattle.rc_core.specs.Steps.{pin_at}
 use Rattle.rc_memory.specs.declared.counts.Counts.{Counts}
 use Rattle.rc_memory.specs.Memory.{HasChain, HasPin, KeptChain, Memory, chain_at, without_snapshot}
-use Rattle.rc_chain.specs.declared.chains.Snap.{Snap}
+use Rattle.rc_evict.specs.Snap.{Snap}
 use Rattle.rc_evict.specs.Evictions.{IsRoomMade}
 use Rattle.rc_memtable.specs.LetGo.{AreLetGo, IsFreedUnpinned, IsLetGo, NoCountFell, TakesNoMore}
 use Rattle.rc_memtable.specs.Partitions.{AreAsBefore}

@@ -8,8 +8,8 @@ use Rattle.rc_core.specs.Steps.{pin_at}
 use Rattle.rc_core.specs.laws.Pins.{pin-is-pinned}
 use Rattle.rc_memory.specs.Memory.{HasPin, KeptChain, Member, Memory, chain_at}
 use Rattle.rc_memory.specs.Recency.{IsRecency}
-use Rattle.rc_chain.specs.declared.chains.Snap.{Snap}
-use Rattle.rc_cursor.specs.Snapshots.{kind_in}
+use Rattle.rc_evict.specs.Snap.{Snap}
+use Rattle.rc_snapshots.specs.Snapshots.{kind_in}
 use Rattle.rc_evict.specs.Evictions.{AreEvicted, IsRoomMade, evicted_of}
 use Rattle.rc_memtable.specs.Writes.{HasWrites, chain_of}
 use Rattle.rc_snapshots.specs.Seeing.{AllStillSee, HasSnap, StillSees}

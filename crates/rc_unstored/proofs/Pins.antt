@@ -6,7 +6,7 @@ use Rattle.rc_core.specs.Steps.{free_number, pin_at, pinned, released}
 use Rattle.rc_core.specs.laws.Pins.{pin-freed, pin-is-pinned, pin-kept, pin-others, pin-was-free}
 use Rattle.rc_registry.specs.Registry.{AreFree}
 use Rattle.rc_memory.specs.Memory.{KeptChain, Memory, chain_at, on_shown, shown_detached, snapshot_number, with_snapshot, without_snapshot}
-use Rattle.rc_cursor.specs.Snapshots.{kind_in, versions_in, versions_upto}
+use Rattle.rc_snapshots.specs.Snapshots.{kind_in, versions_in, versions_upto}
 use Rattle.rc_memtable.specs.Steps.{IsGrown}
 use Rattle.rc_snapshots.specs.Seeing.{AreSameSnapshots, NothingIsLost}
 use Rattle.rc_unstored.proofs.Chains.{same-or-not}

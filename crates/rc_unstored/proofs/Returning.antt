@@ -9,8 +9,8 @@ use Rattle.rc_core.specs.Steps.{pin_at}
 use Rattle.rc_registry.specs.Registry.{AreFree}
 use Rattle.rc_memory.specs.Memory.{HasPin, KeptChain, Memory, chain_at, on_chain, with_chains, without_snapshot}
 use Rattle.rc_memory.specs.laws.Places.{same_some}
-use Rattle.rc_chain.specs.declared.chains.Snap.{Snap}
-use Rattle.rc_cursor.specs.Snapshots.{kind_in}
+use Rattle.rc_evict.specs.Snap.{Snap}
+use Rattle.rc_snapshots.specs.Snapshots.{kind_in}
 use Rattle.rc_memtable.specs.LetGo.{IsFreedUnpinned}
 use Rattle.rc_memtable.specs.Writes.{HasWrites}
 use Rattle.rc_unstored.specs.declared.unstored.Unstored.{Unstored}

@@ -16,8 +16,8 @@ use Rattle.rc_core.specs.Version.{Version}
 use Rattle.rc_core.specs.laws.Pins.{pin-is-pinned}
 use Rattle.rc_memory.specs.Memory.{HasPin, IsSnapshotTaken, KeptChain, Memory, chain_at, without_snapshot}
 use Rattle.rc_memory.specs.laws.Places.{no_some}
-use Rattle.rc_chain.specs.declared.chains.Snap.{Snap}
-use Rattle.rc_cursor.specs.Snapshots.{AreReadable, kind_in, kind_seen, versions_in, versions_seen, versions_upto}
+use Rattle.rc_evict.specs.Snap.{Snap}
+use Rattle.rc_snapshots.specs.Snapshots.{AreReadable, kind_in, kind_seen, versions_in, versions_seen, versions_upto}
 use Rattle.rc_memtable.specs.Partitions.{AreAsBefore, IsAsBefore}
 use Rattle.rc_memtable.specs.Writes.{HasWrites, chain_of, names}
 use Rattle.rc_unstored.specs.calls.Giving.{given_back}

@@ -6,7 +6,7 @@ use Rattle.rc_position.specs.Position.{bytes_cmp}
 use Rattle.rc_mutation.specs.declared.mutations.Write.{Write}
 use Rattle.rc_mutation.specs.Source.{changes_to}
 use Rattle.rc_memory.specs.Memory.{Memory}
-use Rattle.rc_chain.specs.declared.chains.Snap.{Snap}
+use Rattle.rc_evict.specs.Snap.{Snap}
 use Rattle.rc_memtable.specs.Writes.{names}
 use Rattle.rc_snapshots.specs.Seeing.{SeesAllOf}
 use Rattle.rc_unstored.specs.Readers.{IsSnapshotOfKey}

@@ -7,7 +7,7 @@ use Rattle.std.specs.Prelude.{◌≡◌, ℕ, true, false, List, Option, Some, N
 use Rattle.rc_mutation.specs.declared.mutations.Write.{Write}
 use Rattle.rc_mutation.specs.Source.{changes_to}
 use Rattle.rc_memory.specs.Memory.{HasPin, IsSnapshotTaken, KeptChain, Memory, chain_at, on_chain, with_chains, without_snapshot}
-use Rattle.rc_chain.specs.declared.chains.Snap.{Snap}
+use Rattle.rc_evict.specs.Snap.{Snap}
 use Rattle.rc_snapshots.specs.declared.snaps.Snaps.{Snaps}
 use Rattle.rc_snapshots.specs.Streams.{SeesChanges}
 use Rattle.rc_memtable.specs.LetGo.{IsFreedUnpinned}

@@ -9,7 +9,7 @@ use Rattle.lsa_region.specs.Region.{live_bytes}
 use Rattle.rc_schema.specs.SchemaValue.{SchemaValue}
 use Rattle.rc_mutation.specs.declared.mutations.Write.{Write}
 use Rattle.rc_memory.specs.Memory.{IsUntouched, Memory}
-use Rattle.rc_chain.specs.Lives.{IsSameButSlots}
+use Rattle.rc_evict.specs.Lives.{IsSameButSlots}
 use Rattle.rc_evict.specs.Evictions.{IsRoomMade}
 use Rattle.rc_memtable.specs.Steps.{IsApplied}
 use Rattle.rc_unstored.specs.declared.unstored.Unstored.{Unstored}

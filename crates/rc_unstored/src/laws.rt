@@ -11,7 +11,7 @@ ghost use Rattle.rc_evict.specs.Evictions.{IsRoomMade};
 ghost use Rattle.rc_memtable.specs.LetGo.{AreLetGo, NoCountFell, TakesNoMore};
 ghost use Rattle.rc_memtable.specs.Partitions.{AreAsBefore};
 ghost use Rattle.rc_memtable.specs.Writes.{DoAscend, chain_of, names};
-ghost use Rattle.rc_chain.specs.declared.chains.Snap.{Snap};
+ghost use Rattle.rc_evict.specs.Snap.{Snap};
 ghost use Rattle.rc_snapshots.specs.Seeing.{AllStillSee, AreSameSnapshots, HasSnap, SeesAllOf};
 ghost use Rattle.rc_unstored.specs.declared.unstored.Unstored.{Unstored};
 ghost use Rattle.rc_unstored.specs.Memtables.{HaveWrites, in_chains};

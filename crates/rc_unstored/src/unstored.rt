@@ -10,7 +10,7 @@ ghost use Rattle.rc_writes.specs.Allowed.{ChangeFits};
 ghost use Rattle.rc_writes.specs.Single.{IsSingle};
 ghost use Rattle.rc_mutation.specs.Fragments.{IsParts};
 ghost use Rattle.rc_memory.specs.Memory.{HasPin, IsEmpty, IsSnapshotTaken, Memory};
-ghost use Rattle.rc_chain.specs.declared.chains.Snap.{Snap as Snapshot};
+ghost use Rattle.rc_evict.specs.Snap.{Snap as Snapshot};
 ghost use Rattle.rc_snapshots.specs.Seeing.{AllStillSee, AreSameSnapshots, AreThere, HasSnap, NothingIsLost, OthersStillSee, StillSees};
 ghost use Rattle.rc_memtable.specs.LetGo.{AreLetGo, TakesNoMore};
 ghost use Rattle.rc_memtable.specs.Partitions.{AreAsBefore};
@@ -21,8 +21,6 @@ ghost use Rattle.rc_unstored.specs.Readers.{IsNoneOf, IsReleased, IsReleasedIf, 
 ghost use Rattle.rc_unstored.specs.Steps.{AreObjectsMoved, AreSameKeys, IsNotPut, IsPutBehind, IsPutRefused};
 
 use lsa_move::a_tight_region_is_nearly_full;
-use rc_chain::{Chains, Snap};
-use rc_cursor::laws::a_snapshot_can_be_read;
 use rc_evict::laws::{evictions_leave_the_use_of_a_chain, evictions_spare_memtables_and_readers};
 use rc_evict::{Room, make_room};
 use rc_memtable::laws::{
@@ -32,8 +30,8 @@ use rc_memtable::{Memtable, release};
 use rc_mutation::{Partition, Write};
 use rc_position::PartKey;
 use rc_schema::Schema;
-use rc_snapshots::Snaps;
-use rc_snapshots::laws::a_snapshot_sees_what_it_saw;
+use rc_snapshots::laws::{a_snapshot_can_be_read, a_snapshot_sees_what_it_saw};
+use rc_snapshots::{Chains, Snap, Snaps};
 use std::alloc::{AllocError, Global};
 use std::mem;
 

@@ -12,6 +12,7 @@ mod versions;
 
 pub use finding::{entry_at, entry_at_key, entry_like, first_entry, static_row};
 pub use joining::{join_like, join_range, join_row};
+pub use lsa_tree::top_of;
 pub use marking::{set_flags, set_tombs};
 pub use rc_core::Flag;
 pub use splitting::{drop_entry, split, split_like};

@@ -11,8 +11,7 @@ ghost use Rattle.rc_version.specs.Versions.{IsVersionOf, IsPartOf, IsUnlisted, I
 use lsa_region::{End, Ref, Region};
 use lsa_tree::Tree;
 use rc_cell::Tomb;
-use rc_core::{Flag, Mark};
-use rc_mutation::greater_tomb;
+use rc_core::{Flag, Mark, greater_tomb};
 use rc_object::{Head, head_of, make_end, make_head, set_head};
 
 /// Makes a version of its end dummy alone, whose flags are all this one. It takes 152 bytes.

@@ -1,6 +1,6 @@
 -- An object that was found may be one of some list.
 use Rattle.std.specs.Prelude.{List, ◌∷◌, ◌++◌, Option, IfSome}
-use Rattle.lsa_store.specs.declared.place.Ref.{Ref}
+use Rattle.lsa_region.specs.Ref.{Ref}
 use Rattle.lsa_region.specs.Region.{View}
 use Rattle.lsa_list.specs.declared.recency.List.{List as Slots}
 use Rattle.lsa_list.specs.Recency.{IsList}

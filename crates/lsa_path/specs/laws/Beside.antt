@@ -1,6 +1,6 @@
 -- What a path that changes leaves: the ends beside it.
 use Rattle.std.proofs.Common.{◌≡◌, ◌≢◌, ℕ, List, [], ◌∷◌, ◌++◌, Option, Some, sym, ap, ◌∙◌, subst}
-use Rattle.lsa_store.specs.declared.place.Ref.{Ref}
+use Rattle.lsa_region.specs.Ref.{Ref}
 use Rattle.lsa_region.specs.declared.end.End.{End}
 use Rattle.lsa_region.specs.declared.end.End.TheVariants.{Obj}
 use Rattle.lsa_region.specs.Paired.{WellPaired}

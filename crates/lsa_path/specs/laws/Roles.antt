@@ -1,7 +1,7 @@
 -- What a change of links of some roles leaves of those of another role.
 use Rattle.std.proofs.Common.{◌≡◌, ◌≢◌, ℕ, List, Option, Some, None, sym, ap, ◌∙◌, subst}
 use Rattle.std.specs.Prelude.{IfSome}
-use Rattle.lsa_store.specs.declared.place.Ref.{Ref}
+use Rattle.lsa_region.specs.Ref.{Ref}
 use Rattle.lsa_region.specs.declared.end.End.{End}
 use Rattle.lsa_region.specs.Region.{View, link_of}
 use Rattle.lsa_path.specs.Path.{IsPath, AllOnward, IsInserted, IsTakenOut}

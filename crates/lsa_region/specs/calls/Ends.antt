@@ -1,7 +1,7 @@
 -- What one step of a link or a root slot changes.
 use Rattle.std.specs.Prelude.{◌≡◌, ◌≢◌, ℕ, ◌+◌, List, slice_index_or, Option, None}
 use Rattle.std.specs.Option.{option_map}
-use Rattle.lsa_yard.specs.Cells.{Cell, size_of, extent}
+use Rattle.lsa_store.specs.Cells.{Cell, size_of, extent}
 use Rattle.lsa_store.specs.declared.place.Ref.{Ref}
 use Rattle.lsa_store.specs.Objects.{cells_of, cell_in, body_in, live_count, object_count}
 use Rattle.lsa_region.specs.declared.end.End.{End}

@@ -1,9 +1,9 @@
 -- Objects that move: one to another place, and all of a segment.
 use Rattle.std.specs.Prelude.{◌≡◌, ◌≢◌, ℕ, ◌+◌, ◌≤◌, ◌⊎◌, cond, nat_lt, List, length, Option, None, IsSome}
 use Rattle.std.specs.Option.{option_map}
-use Rattle.lsa_pool.specs.declared.State.TheVariants.{Closed}
-use Rattle.lsa_pool.specs.Room.{usage_of, live_sum}
-use Rattle.lsa_yard.specs.Cells.{size_of, extent as reach}
+use Rattle.lsa_store.specs.State.TheVariants.{Closed}
+use Rattle.lsa_store.specs.Room.{usage_of, live_sum}
+use Rattle.lsa_store.specs.Cells.{size_of, extent as reach}
 use Rattle.lsa_store.specs.declared.place.Ref.{Ref}
 use Rattle.lsa_store.specs.Objects.{cells_of, cell_in, live_count}
 use Rattle.lsa_store.specs.Stock.{stock_of}

@@ -2,7 +2,7 @@
 use Rattle.std.proofs.Common.{ℕ, ◌+◌, ◌^◌, ◌<◌, ◌≤◌, List, ◌++◌, length, take, drop, sym, subst}
 use Rattle.lsa_kinds.specs.Fields.{spelled, IsPut}
 use Rattle.lsa_kinds.specs.laws.Fields.{length-spelled, number-spelled, put-middle}
-use Rattle.lsa_segment.specs.Bytes.{overwritten}
+use Rattle.lsa_store.specs.Bytes.{overwritten}
 
 -- it reads back, and every field apart from it reads as it did
 pub number-written : (bytes : List ℕ) (offset width value : ℕ) → offset + width ≤ length bytes → value < 256 ^ width → IsPut bytes (overwritten bytes offset (spelled width value)) offset width value

@@ -8,9 +8,9 @@ use Rattle.std.proofs.lemmas.List.{get_or-map, length-map}
 use Rattle.std.proofs.lemmas.List.Elements.{Contains-append_left, Contains-append_right, Contains-append_cases}
 use Rattle.lsa_kinds.specs.declared.kind.Kind.{Kind}
 use Rattle.lsa_kinds.specs.Kinds.{links_of}
-use Rattle.lsa_yard.specs.Cells.{Cell, size_of, cell_at, body_of, body_at}
-use Rattle.lsa_yard.specs.laws.Reading.{size-least}
-use Rattle.lsa_yard.specs.laws.Changes.{at-inside, at-behind}
+use Rattle.lsa_store.specs.Cells.{Cell, size_of, cell_at, body_of, body_at}
+use Rattle.lsa_store.specs.Reading.{size-least}
+use Rattle.lsa_store.specs.Changes.{at-inside, at-behind}
 use Rattle.lsa_store.specs.declared.place.Ref.{Ref}
 use Rattle.lsa_store.specs.Objects.{body_in}
 use Rattle.lsa_region.specs.declared.end.End.{End}

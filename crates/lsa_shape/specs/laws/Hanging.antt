@@ -4,10 +4,10 @@ use Rattle.std.specs.Option.{option_map}
 use Rattle.std.specs.Prelude.{Contains}
 use Rattle.std.proofs.lemmas.List.{map-append}
 use Rattle.std.proofs.lemmas.List.Elements.{Contains-append_left, Contains-append_right, Contains-append_cases}
-use Rattle.lsa_store.specs.declared.place.Ref.{Ref}
-use Rattle.lsa_region.specs.declared.end.End.{End}
-use Rattle.lsa_region.specs.declared.end.End.TheVariants.{Obj}
-use Rattle.lsa_region.specs.Paired.{WellPaired}
+use Rattle.lsa_path.specs.Ref.{Ref}
+use Rattle.lsa_path.specs.End.{End}
+use Rattle.lsa_path.specs.End.TheVariants.{Obj}
+use Rattle.lsa_path.specs.Paired.{WellPaired}
 use Rattle.lsa_path.specs.laws.Paths.{same_field, same_object, same_some}
 use Rattle.lsa_path.specs.laws.Members.{member-cases, member-later, member-here}
 use Rattle.lsa_shape.specs.Shapes.{TreeShape, Leaf, Node, inorder, IsIn, HangsAt, IsOff, IsClearOf, shape_by}

@@ -1,12 +1,12 @@
 -- Two ends that change places, and what a rotation does.
 use Rattle.std.proofs.Common.{◌≡◌, ◌≢◌, ℕ, zero, suc, ◌≤◌, Option, Some, inl, inr, refl, sym, ap, ◌∙◌, subst, arith}
 use Rattle.std.specs.Option.{option_map}
-use Rattle.lsa_store.specs.declared.place.Ref.{Ref}
-use Rattle.lsa_region.specs.declared.end.End.{End}
-use Rattle.lsa_region.specs.declared.end.End.TheVariants.{Obj}
-use Rattle.lsa_region.specs.Ends.{swapped}
-use Rattle.lsa_region.specs.Paired.{WellPaired, IsExchanged}
-use Rattle.lsa_region.specs.laws.Exchanges.{swap-second, swap-other, map_other, at_end, swap_twice, exchanged-well}
+use Rattle.lsa_path.specs.Ref.{Ref}
+use Rattle.lsa_path.specs.End.{End}
+use Rattle.lsa_path.specs.End.TheVariants.{Obj}
+use Rattle.lsa_path.specs.Ends.{swapped}
+use Rattle.lsa_path.specs.Paired.{WellPaired, IsExchanged}
+use Rattle.lsa_path.specs.Exchanges.{swap-second, swap-other, map_other, at_end, swap_twice, exchanged-well}
 use Rattle.lsa_path.specs.laws.Paths.{same_field, same_object, same_some}
 use Rattle.lsa_shape.specs.declared.flank.Flank.{Flank}
 use Rattle.lsa_shape.specs.Flanks.{near_link, far_link}

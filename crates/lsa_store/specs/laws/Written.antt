@@ -9,7 +9,7 @@ use Rattle.lsa_kinds.specs.Kinds.{links_of}
 use Rattle.lsa_pool.specs.declared.Usage.{Usage}
 use Rattle.lsa_pool.specs.Room.{nothing, usage_of, live_sum}
 use Rattle.lsa_pool.specs.laws.Usages.{decided}
-use Rattle.lsa_segment.specs.Bytes.{overwritten}
+use Rattle.lsa_yard.specs.Bytes.{overwritten}
 use Rattle.lsa_yard.specs.Cells.{Cell, size_of, cell_at, body_of, fresh, with_link, with_bytes, gap_of}
 use Rattle.lsa_yard.specs.laws.Changes.{split, at-within, at-apart, at-even}
 use Rattle.lsa_yard.specs.laws.Objects.{body-fresh, body-written}

@@ -1,6 +1,6 @@
 -- The next entry on a side of a place between entries.
 use Rattle.std.specs.Prelude.{List, Option}
-use Rattle.lsa_store.specs.declared.place.Ref.{Ref}
+use Rattle.lsa_region.specs.Ref.{Ref}
 use Rattle.lsa_shape.specs.declared.flank.Flank.{Flank}
 use Rattle.lsa_shape.specs.declared.flank.Flank.TheVariants.{Low, High}
 use Rattle.lsa_tree.specs.Search.{first_entry, last_entry}

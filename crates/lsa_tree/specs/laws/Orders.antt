@@ -15,9 +15,9 @@ use Rattle.rc_rowcode.specs.laws.Codecs.{pos_codec}
 use Rattle.rc_rowcode.specs.laws.Read.{one_spelling}
 use Rattle.lsa_kinds.specs.declared.kind.Kind.{Kind}
 use Rattle.lsa_kinds.specs.Fields.{number_at}
-use Rattle.lsa_store.specs.declared.place.Ref.{Ref}
+use Rattle.lsa_region.specs.Ref.{Ref}
 use Rattle.lsa_region.specs.Region.{View, body}
-use Rattle.lsa_path.specs.laws.Members.{member-cases, member-first, member-later}
+use Rattle.lsa_shape.specs.Members.{member-cases, member-first, member-later}
 use Rattle.lsa_tree.specs.Entries.{SpellsEntryAt, position_in, IsEntryAtPosition, StandsEarlier, StandsLater, BelongsBetween, AreAscending}
 
 -- ---- all of a list

@@ -8,16 +8,16 @@ use Rattle.lsa_kinds.specs.declared.kind.Kind.{Kind}
 use Rattle.lsa_kinds.specs.declared.kind.Kind.TheVariants.{Version, RowEntry, Dummy, Static}
 use Rattle.lsa_kinds.specs.Fields.{number, number_at, IsApart, IsPut}
 use Rattle.lsa_kinds.specs.Kinds.{links_of}
-use Rattle.lsa_store.specs.declared.place.Ref.{Ref}
+use Rattle.lsa_region.specs.Ref.{Ref}
 use Rattle.lsa_region.specs.declared.end.End.{End}
 use Rattle.lsa_region.specs.declared.end.End.TheVariants.{Obj, Slot}
 use Rattle.lsa_region.specs.Ends.{named_as, end_as}
 use Rattle.lsa_region.specs.Region.{View, body, link_of, IsEnd, IsWell, IsSummed, objects, SameObjects, IsAdded, IsFreed, IsWritten, Renamed}
 use Rattle.lsa_region.specs.laws.Ends.{ends_decided}
 use Rattle.lsa_region.specs.laws.Refs.{refs_decided}
-use Rattle.lsa_path.specs.Roles.{role_of, role_in, role_at, Parent, Left, Right, Entries}
-use Rattle.lsa_path.specs.laws.Paths.{same_object}
-use Rattle.lsa_path.specs.laws.Renamed.{some-there}
+use Rattle.lsa_shape.specs.Roles.{role_of, role_in, role_at, Parent, Left, Right, Entries}
+use Rattle.lsa_shape.specs.Paths.{same_object}
+use Rattle.lsa_shape.specs.Renamed.{some-there}
 use Rattle.lsa_shape.specs.Shapes.{TreeShape, Leaf, Node, inorder, IsIn, HangsAt, IsOff, IsClearOf, shape_by}
 use Rattle.lsa_shape.specs.laws.Hanging.{in-listed, listed-in, entered-by, hangs-determined, hangs-apart, hangs-moved, hangs-mapped, inorder-by}
 use Rattle.lsa_shape.specs.declared.flank.Flank.TheVariants.{Low}

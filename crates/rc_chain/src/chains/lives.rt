@@ -21,7 +21,7 @@ use lsa_region::{End, Ref, Region};
 use lsa_tree::Tree;
 use rc_cell::Tomb;
 use rc_core::{ChainKind, Flag};
-use rc_partition::{add_version, drop_version};
+use rc_memory::{add_version, drop_version};
 use rc_position::{Key, Pos, Weight};
 use rc_version::entry_at;
 use std::alloc::{AllocError, Global};

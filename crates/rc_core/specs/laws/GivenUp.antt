@@ -15,8 +15,8 @@ use Rattle.rc_position.specs.declared.positions.Pos.{Pos}
 use Rattle.rc_position.specs.Position.{Place, Head, Static, Clustered, place_cmp, pos_cmp, row_pos, covers, IsBefore}
 use Rattle.rc_position.specs.laws.Orders.{pos_cmp_same}
 use Rattle.rc_position.specs.laws.Bounds.{last_pos-greatest}
-use Rattle.rc_ranges.specs.declared.pieces.Piece.{Piece}
-use Rattle.rc_ranges.specs.Cover.{cover, tombs_over}
+use Rattle.rc_mutation.specs.Piece.{Piece}
+use Rattle.rc_mutation.specs.Cover.{cover, tombs_over}
 use Rattle.rc_mutation.specs.declared.mutations.Mutation.{Mutation}
 use Rattle.rc_mutation.specs.Source.{source_at, source_at_static, static_rows, rows_in, all_rows, all_pieces}
 use Rattle.rc_core.specs.declared.entries.ChainKind.TheVariants.{Cache}

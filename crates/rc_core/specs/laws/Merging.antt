@@ -18,8 +18,8 @@ use Rattle.rc_cell.specs.laws.{joined_row-append}
 use Rattle.rc_cell.specs.Winner.{greatest, joined_row}
 use Rattle.rc_position.specs.declared.positions.Pos.{Pos}
 use Rattle.rc_position.specs.Position.{Place, pos_cmp, row_pos, covers}
-use Rattle.rc_ranges.specs.declared.pieces.Piece.{Piece}
-use Rattle.rc_ranges.specs.Cover.{cover, tombs_over}
+use Rattle.rc_mutation.specs.Piece.{Piece}
+use Rattle.rc_mutation.specs.Cover.{cover, tombs_over}
 use Rattle.rc_mutation.specs.declared.mutations.Mutation.{Mutation}
 use Rattle.rc_mutation.specs.Source.{source_at, source_at_static, static_rows, rows_in, all_rows, all_pieces}
 use Rattle.rc_mutation.specs.laws.Sources.{static_rows-append, all_rows-append, all_pieces-append}

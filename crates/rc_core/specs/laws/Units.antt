@@ -18,7 +18,7 @@ use Rattle.rc_mutation.specs.declared.mutations.Mutation.{Mutation}
 use Rattle.rc_mutation.specs.Source.{SameSource, source_at, source_at_static, source_at_head, static_rows, rows_in, all_rows, all_pieces}
 use Rattle.rc_mutation.specs.Source as source
 use Rattle.rc_mutation.specs.laws.Sources.{partition_tombs-append, static_rows-append}
-use Rattle.rc_ranges.specs.Cover.{cover, tombs_over}
+use Rattle.rc_mutation.specs.Cover.{cover, tombs_over}
 use Rattle.rc_core.specs.declared.entries.ChainKind.TheVariants.{Cache}
 use Rattle.rc_core.specs.declared.entries.Flag.TheVariants.{Inherit}
 use Rattle.rc_core.specs.SpotState.{SpotState, spot_state, joined_state, through}

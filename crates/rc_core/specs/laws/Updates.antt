@@ -10,7 +10,7 @@ use Rattle.rc_cell.specs.Orders.{tomb_cmp, tomb_cmp_total}
 use Rattle.rc_cell.specs.laws.Beats.{tomb_cmp-IsAntisymmetric}
 use Rattle.rc_cell.specs.laws.Greatest.{greatest-swap, greatest-twice}
 use Rattle.rc_cell.specs.laws.{joined_row-append, joined_row-swap, joined_row-twice}
-use Rattle.rc_ranges.specs.Cover.{cover, tombs_over}
+use Rattle.rc_mutation.specs.Cover.{cover, tombs_over}
 use Rattle.rc_mutation.specs.laws.Sources.{static_rows-append}
 use Rattle.rc_cell.specs.Winner.{greatest, joined_row}
 use Rattle.rc_position.specs.Position.{Place, Head, End, place_cmp}

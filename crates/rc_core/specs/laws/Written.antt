@@ -21,8 +21,8 @@ use Rattle.rc_position.specs.declared.positions.Weight.{Weight}
 use Rattle.rc_position.specs.declared.positions.Weight.TheVariants.{Before, At, After}
 use Rattle.rc_position.specs.Position.{pos_cmp, row_pos, covers}
 use Rattle.rc_position.specs.laws.Orders.{pos_cmp_total, pos_cmp_same}
-use Rattle.rc_ranges.specs.declared.pieces.Piece.{Piece}
-use Rattle.rc_ranges.specs.Cover.{cover, tombs_over}
+use Rattle.rc_mutation.specs.Piece.{Piece}
+use Rattle.rc_mutation.specs.Cover.{cover, tombs_over}
 use Rattle.rc_mutation.specs.declared.mutations.Mutation.{Mutation}
 use Rattle.rc_mutation.specs.Source.{SameSource, source_at_head, source_at_static, static_rows, rows_in, all_rows, all_pieces}
 use Rattle.rc_mutation.specs.Source as source

@@ -13,7 +13,7 @@ ghost use Rattle.rc_position.specs.declared.positions.Pos.{Pos};
 ghost use Rattle.rc_position.specs.Position.{covers, row_pos};
 ghost use Rattle.rc_mutation.specs.declared.mutations.Mutation.{Mutation};
 ghost use Rattle.rc_mutation.specs.Source.{SameSource, rows_in, source_at};
-ghost use Rattle.rc_ranges.specs.Cover.{tombs_over};
+ghost use Rattle.rc_mutation.specs.Cover.{tombs_over};
 ghost use Rattle.rc_core.specs.declared.parts.Part.{Part};
 ghost use Rattle.rc_core.specs.declared.entries.ChainKind.TheVariants.{Memtable};
 ghost use Rattle.rc_core.specs.Chain.{IsEvenAt, IsKnown, states_at, content, flagged};

@@ -1,5 +1,5 @@
 -- What a step may change of a state, by cases: every law over steps goes by these.
-use Rattle.std.proofs.Common.{◌≡◌, ◌≢◌, ◌⊎◌, inl, inr, ℕ, ◌-◌, ◌==◌, nat_lt, Bool, true, false, not, List, [], ◌∷◌, ◌++◌, length, Option, Some, None, MatchBool, MatchOption, refl, ap, ◌∙◌}
+use Rattle.std.proofs.Common.{◌≡◌, inl, inr, ℕ, ◌-◌, ◌==◌, nat_lt, Bool, true, false, not, List, [], ◌∷◌, ◌++◌, length, Option, Some, None, MatchBool, MatchOption, refl, ap}
 use Rattle.std.specs.List.{filter}
 use Rattle.rc_position.specs.declared.slices.Slice.{Slice}
 use Rattle.rc_mutation.specs.declared.mutations.Partition.{Partition}
@@ -45,7 +45,7 @@ module _ (m : State) (command : Command) (reply : Reply) (new : State) (none : a
   tries id key slice (Some r) b s = same s.1
 
   gives : (id count : ℕ) (r : Reader) → Gives m id count r reply new → Change m command reply new
-  gives id count r (inl s) = Reads _ s.1 none
+  gives id count r (inl s) = Reads _ s.2.1 none
   gives id count r (inr (inl s)) = same s.1
   gives id count r (inr (inr s)) = same s.4.1
 

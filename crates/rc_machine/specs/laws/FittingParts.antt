@@ -1,10 +1,9 @@
 -- The parts of writes that fit a schema fit a table of it.
-use Rattle.std.specs.Prelude.{◌≡◌, ℕ, All, List, map as list_map, slice_index_or}
+use Rattle.std.specs.Prelude.{ℕ, All, List, map as list_map, slice_index_or}
 use Rattle.std.specs.Ordering.{eq_by_cmp}
 use Rattle.std.specs.FinMap as map
 use Rattle.rc_position.specs.Position.{bytes_cmp}
 use Rattle.rc_schema.specs.SchemaValue.{SchemaValue}
-use Rattle.rc_mutation.specs.declared.mutations.Mutation.{Mutation}
 use Rattle.rc_mutation.specs.declared.mutations.Partition.{Partition}
 use Rattle.rc_mutation.specs.declared.mutations.Write.{Write}
 use Rattle.rc_mutation.specs.Fragments.{IsParts}

@@ -1,7 +1,6 @@
 -- The files of a folder, of which the next one has one more than the last of their numbers: it stands behind all of them, and they stay.
 use Rattle.std.proofs.Common.{◌≡◌, ◌==◌, nat_lt, ◌⊎◌, inl, inr, ℕ, ◌+◌, ◌<◌, Bool, true, false, cond, ◌&&◌, T, List, [], ◌∷◌, ◌++◌, length, map, Option, Some, None, refl, sym, ap, subst, ◌∙◌, append_assoc, arith}
 use Rattle.std.specs.Prelude.{All, fold}
-use Rattle.std.specs.declared.cmp.Ordering.{Ordering}
 use Rattle.std.specs.declared.cmp.Ordering.TheVariants.{Less, Equal, Greater}
 use Rattle.std.specs.Ordering.{nat_cmp, is_lt, is_eq, eq_by_cmp}
 use Rattle.std.specs.Cmp.{nat_cmp_total, eq_by_cmp_equiv}
@@ -15,7 +14,6 @@ use Rattle.std.proofs.Math.Seq.{get_or-append_seam}
 use Rattle.rc_cell.specs.laws.ByColumn.{same_column}
 use Rattle.rc_outside.specs.Files.{Files, IsNoFile}
 use Rattle.rc_schema.specs.SchemaValue.{SchemaValue}
-use Rattle.rc_mutation.specs.declared.mutations.Write.{Write}
 use Rattle.rc_tfile.specs.Before.{text}
 use Rattle.rc_tfile.specs.TableText.{whole_table}
 use Rattle.rc_machine.specs.State.{Table, numbers}

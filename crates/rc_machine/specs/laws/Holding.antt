@@ -1,5 +1,5 @@
 -- What was flushed: each step keeps what the tables and files hold.
-use Rattle.std.proofs.Common.{◌≡◌, ℕ, zero, suc, ◌+◌, ◌==◌, ◌-◌, ◌<◌, ◌≤◌, Bool, true, false, List, [], ◌∷◌, ◌++◌, length, take, drop, Option, Some, None, refl, sym, ap, subst, ◌∙◌, append_assoc, append-nil, arith, le_refl, length-append}
+use Rattle.std.proofs.Common.{◌≡◌, ℕ, zero, suc, ◌+◌, ◌==◌, ◌-◌, ◌≤◌, Bool, true, false, List, [], ◌∷◌, ◌++◌, length, take, drop, Option, Some, None, refl, sym, ap, subst, ◌∙◌, append_assoc, append-nil, arith, le_refl, length-append}
 use Rattle.std.specs.Prelude.{All, if◌then◌else◌, option_map}
 use Rattle.std.specs.FinMap as finite
 use Rattle.std.proofs.lemmas.List.{map-append, take-append-le, take-append-drop, take-take, drop-take}
@@ -13,7 +13,7 @@ use Rattle.rc_tfile.specs.TableText.{whole_table, IsTable}
 use Rattle.rc_lines.specs.declared.commands.Command.{Command}
 use Rattle.rc_lines.specs.declared.commands.Reply.{Reply}
 use Rattle.rc_machine.specs.State.{State, Table, numbers, unstored}
-use Rattle.rc_machine.specs.Steps.{Steps, AfterSteps, IsFlushed, with_table, without_sealed, sealing, next_number}
+use Rattle.rc_machine.specs.Steps.{AfterSteps, IsFlushed, with_table, without_sealed, sealing, next_number}
 use Rattle.rc_machine.specs.Flushed.{Flush, IsFlushOf, HasFlushed, AreNext, tables_of, writes_of, files_with, in_tables, accepted, accepted_by}
 use Rattle.rc_machine.specs.laws.Changes.{Change, Reads, Writes, Seals, Begins, Stored, Goes, Ends, change_of}
 

@@ -3,8 +3,8 @@ use Rattle.std.proofs.Common.{◌≡◌, ◌<◌, ℕ, zero, suc, false, List, [
 use Rattle.std.specs.Prelude.{IsSomeAnd}
 use Rattle.std.proofs.lemmas.List.{length-append, length-map, map-append}
 use Rattle.lsa_region.specs.Region.{View}
-use Rattle.lsa_list.specs.declared.recency.List.{List as Slots}
-use Rattle.rc_core.specs.Version.{Version, IsVersion}
+use Rattle.rc_partition.specs.List.{List as Slots}
+use Rattle.rc_registry.specs.Version.{Version, IsVersion}
 use Rattle.rc_partition.specs.Partitions.{PartitionEntry, StandingVersion}
 use Rattle.rc_registry.specs.declared.uses.Use.{Use}
 use Rattle.rc_registry.specs.Registry.{Registry}

@@ -10,13 +10,13 @@ use Rattle.lsa_store.specs.declared.place.Ref.{Ref}
 use Rattle.lsa_region.specs.declared.end.End.TheVariants.{Obj}
 use Rattle.lsa_region.specs.declared.end.Root.{Root}
 use Rattle.lsa_region.specs.Region.{View, link_of, slots_of, IsRootAdded, IsRootDropped, IsWell, SameButRoots}
-use Rattle.lsa_list.specs.declared.recency.List.{List as Slots}
-use Rattle.rc_core.specs.declared.entries.ChainKind.{ChainKind}
-use Rattle.rc_core.specs.declared.entries.ChainKind.TheVariants.{Cache, Memtable}
-use Rattle.rc_core.specs.declared.entries.Flag.{Flag}
-use Rattle.rc_core.specs.Steps.{all_but, version_of}
-use Rattle.rc_core.specs.Version.{Version, end_position}
-use Rattle.rc_version.specs.Versions.{IsUnlisted, IsVersionOf}
+use Rattle.rc_partition.specs.List.{List as Slots}
+use Rattle.rc_registry.specs.ChainKind.{ChainKind}
+use Rattle.rc_registry.specs.ChainKind.TheVariants.{Cache, Memtable}
+use Rattle.rc_registry.specs.Flag.{Flag}
+use Rattle.rc_registry.specs.Steps.{all_but, version_of}
+use Rattle.rc_registry.specs.Version.{Version, end_position}
+use Rattle.rc_partition.specs.Versions.{IsUnlisted, IsVersionOf}
 use Rattle.rc_partition.specs.Partitions.{AreStanding, PartitionEntry, StandingVersion, among, partition_of, standing}
 use Rattle.rc_partition.specs.laws.Lists.{elem-first, elem-later, elem-still}
 use Rattle.rc_registry.specs.declared.uses.Use.{Use}

@@ -8,14 +8,14 @@ use Rattle.lsa_store.specs.declared.place.Ref.{Ref}
 use Rattle.lsa_region.specs.Ends.{SlotCounts}
 use Rattle.lsa_region.specs.declared.end.End.TheVariants.{Obj}
 use Rattle.lsa_region.specs.Region.{View, link_of, IsSummed, IsWell}
-use Rattle.lsa_list.specs.declared.recency.List.{List as Slots}
-use Rattle.lsa_tree.specs.Entries.{IsEntryAtPosition}
-use Rattle.lsa_tree.specs.laws.Orders.{stands-once}
-use Rattle.rc_core.specs.declared.entries.Entry.{Entry}
-use Rattle.rc_core.specs.Steps.{on_version}
-use Rattle.rc_core.specs.Version.{Version}
-use Rattle.rc_version.specs.Versions.{HoldEntries, IsKeptBut, IsVersionOf, IsWeighed}
-use Rattle.rc_version.specs.laws.Objects.{holds-stands}
+use Rattle.rc_partition.specs.List.{List as Slots}
+use Rattle.rc_partition.specs.Entries.{IsEntryAtPosition}
+use Rattle.rc_partition.specs.Orders.{stands-once}
+use Rattle.rc_registry.specs.Entry.{Entry}
+use Rattle.rc_registry.specs.Steps.{on_version}
+use Rattle.rc_registry.specs.Version.{Version}
+use Rattle.rc_partition.specs.Versions.{HoldEntries, IsKeptBut, IsVersionOf, IsWeighed}
+use Rattle.rc_partition.specs.Objects.{holds-stands}
 use Rattle.rc_partition.specs.Partitions.{AreStanding, PartitionEntry, StandingVersion, among, partition_of, standing}
 use Rattle.rc_partition.specs.laws.Changed.{stands-settled}
 use Rattle.rc_partition.specs.laws.Lists.{elem-cases, elem-none}

@@ -4,13 +4,13 @@ use Rattle.std.specs.Prelude.{Contains, IfSome}
 use Rattle.rc_cell.specs.declared.rows.Row.{Row}
 use Rattle.rc_position.specs.declared.positions.Pos.{Pos}
 use Rattle.lsa_region.specs.Region.{View}
-use Rattle.lsa_list.specs.declared.recency.List.{List as Slots}
-use Rattle.rc_core.specs.declared.entries.Entry.{Entry}
-use Rattle.rc_core.specs.AtPlace.{HasEntryAt}
-use Rattle.rc_core.specs.Change.{drop_at, split}
-use Rattle.rc_core.specs.Continuity.{with_entries, without_statics}
-use Rattle.rc_core.specs.Steps.{on_version, row_joined}
-use Rattle.rc_core.specs.Version.{EndsWithDummy, Version, IsVersion, end_position}
+use Rattle.rc_partition.specs.List.{List as Slots}
+use Rattle.rc_registry.specs.Entry.{Entry}
+use Rattle.rc_registry.specs.AtPlace.{HasEntryAt}
+use Rattle.rc_registry.specs.Change.{drop_at, split}
+use Rattle.rc_registry.specs.Continuity.{with_entries, without_statics}
+use Rattle.rc_registry.specs.Steps.{on_version, row_joined}
+use Rattle.rc_registry.specs.Version.{EndsWithDummy, Version, IsVersion, end_position}
 use Rattle.rc_registry.specs.Registry.{Registry}
 use Rattle.rc_memory.specs.declared.counts.Counts.{Counts}
 use Rattle.rc_memory.specs.Memory.{KeptChain, Memory, HasVersion, IsVersionAt, chain_at, on_chain, on_shown, on_version_of}

@@ -6,10 +6,10 @@ use Rattle.lsa_pool.specs.declared.Usage.{Usage}
 use Rattle.lsa_pool.specs.Account.{IsSound}
 use Rattle.lsa_pool.specs.Room.{live_sum, usage_of}
 use Rattle.lsa_region.specs.Region.{View, live_bytes, slots_of}
-use Rattle.lsa_list.specs.declared.recency.List.{List as Slots}
-use Rattle.rc_core.specs.declared.entries.Entry.{Entry}
-use Rattle.rc_core.specs.Version.{EndsWithDummy, Version, end_position}
-use Rattle.rc_version.specs.Versions.{IsVersionOf, bytes_at, entries_bytes, version_bytes}
+use Rattle.rc_partition.specs.List.{List as Slots}
+use Rattle.rc_registry.specs.Entry.{Entry}
+use Rattle.rc_registry.specs.Version.{EndsWithDummy, Version, end_position}
+use Rattle.rc_partition.specs.Versions.{IsVersionOf, bytes_at, entries_bytes, version_bytes}
 use Rattle.rc_partition.specs.Partitions.{IsPartitionEntry, PartitionEntry, StandingVersion}
 use Rattle.rc_partition.specs.laws.Lists.{elem-first, elem-later}
 use Rattle.rc_registry.specs.declared.uses.Use.{Use}

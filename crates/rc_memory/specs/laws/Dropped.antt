@@ -4,8 +4,8 @@ use Rattle.std.specs.Prelude.{AllPairs, Contains}
 use Rattle.std.specs.Option.{option_map}
 use Rattle.lsa_pool.specs.laws.Usages.{decided}
 use Rattle.rc_position.specs.declared.positions.Pos.{Pos}
-use Rattle.rc_core.specs.Steps.{all_but, renumbered}
-use Rattle.rc_core.specs.Version.{Version}
+use Rattle.rc_registry.specs.Steps.{all_but, renumbered}
+use Rattle.rc_registry.specs.Version.{Version}
 use Rattle.rc_partition.specs.laws.Lists.{elem-first, elem-later, elem-map, elem-mapped, once-cons, once-head, once-none, once-tail}
 use Rattle.rc_registry.specs.Registry.{put}
 use Rattle.rc_memory.specs.Memory.{KeptChain, Member, Memory, IsVersionAt, chain_at, on_chain, on_shown, renumbered_member, shown_without}

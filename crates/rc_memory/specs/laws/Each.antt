@@ -5,10 +5,10 @@ use Rattle.std.proofs.lemmas.List.Sums.{sum_by-cons}
 use Rattle.rc_position.specs.declared.positions.Pos.{Pos}
 use Rattle.lsa_store.specs.declared.place.Ref.{Ref}
 use Rattle.lsa_region.specs.Region.{View, body, live_bytes, objects, IsSummed}
-use Rattle.lsa_list.specs.declared.recency.List.{List as Slots}
-use Rattle.lsa_tree.specs.laws.Orders.{ascending-stands}
-use Rattle.rc_core.specs.Version.{Version}
-use Rattle.rc_version.specs.Versions.{IsVersionOf, version_bytes}
+use Rattle.rc_partition.specs.List.{List as Slots}
+use Rattle.rc_partition.specs.Orders.{ascending-stands}
+use Rattle.rc_registry.specs.Version.{Version}
+use Rattle.rc_partition.specs.Versions.{IsVersionOf, version_bytes}
 use Rattle.rc_partition.specs.Partitions.{IsRowOfVersion, PartitionEntry, StandingVersion, version_objects}
 use Rattle.rc_partition.specs.laws.Lists.{elem-cases, elem-none, elem-split, sum-mapped}
 use Rattle.rc_partition.specs.laws.Whole.{all-counted, nothing-else}

@@ -7,15 +7,15 @@ use Rattle.rc_cell.specs.declared.rows.Row.{Row}
 use Rattle.rc_position.specs.declared.positions.Pos.{Pos}
 use Rattle.rc_position.specs.Position.{IsBefore, pos_cmp}
 use Rattle.rc_position.specs.laws.Orders.{eq_by_cmp-same, pos_cmp_same, pos_cmp_total}
-use Rattle.rc_core.specs.declared.entries.Entry.{Entry}
-use Rattle.rc_core.specs.declared.entries.Mark.{Mark}
-use Rattle.rc_core.specs.AtPlace.{HasEntryAt}
-use Rattle.rc_core.specs.Change.{at_entry, drop_at, lost_mark, split, split_by, take_out, with_first_gap, with_row}
-use Rattle.rc_core.specs.Continuity.{with_entries}
-use Rattle.rc_core.specs.Steps.{row_joined}
-use Rattle.rc_core.specs.Version.{Ascend, EndsWithDummy, Version}
-use Rattle.rc_core.specs.laws.Placed.{ahead_of, has-split, has-taken_out, stands-has}
-use Rattle.rc_core.specs.laws.Spots.{ascend-tail, position-reached, split-stands}
+use Rattle.rc_registry.specs.Entry.{Entry}
+use Rattle.rc_registry.specs.Mark.{Mark}
+use Rattle.rc_registry.specs.AtPlace.{HasEntryAt}
+use Rattle.rc_registry.specs.Change.{at_entry, drop_at, lost_mark, split, split_by, take_out, with_first_gap, with_row}
+use Rattle.rc_registry.specs.Continuity.{with_entries}
+use Rattle.rc_registry.specs.Steps.{row_joined}
+use Rattle.rc_registry.specs.Version.{Ascend, EndsWithDummy, Version}
+use Rattle.rc_registry.specs.Placed.{ahead_of, has-split, has-taken_out, stands-has}
+use Rattle.rc_registry.specs.Spots.{ascend-tail, position-reached, split-stands}
 use Rattle.rc_memory.specs.Recency.{HasObject}
 
 -- ---- entries

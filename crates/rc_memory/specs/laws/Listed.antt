@@ -8,14 +8,14 @@ use Rattle.lsa_region.specs.declared.end.End.{End}
 use Rattle.lsa_region.specs.declared.end.End.TheVariants.{Obj}
 use Rattle.lsa_region.specs.Region.{View, link_of, IsWell, SameObjects}
 use Rattle.lsa_path.specs.laws.Paths.{same_object}
-use Rattle.lsa_list.specs.declared.recency.List.{List as Slots}
-use Rattle.lsa_list.specs.Recency.{IsElsewhere, IsList, first}
-use Rattle.lsa_tree.specs.Entries.{AreAscending}
-use Rattle.lsa_tree.specs.laws.Found.{at-once}
-use Rattle.lsa_tree.specs.laws.Orders.{ascending-split}
-use Rattle.lsa_tree.specs.laws.Trees.{stands-same}
-use Rattle.rc_version.specs.Versions.{IsUnlisted, IsVersionOf}
-use Rattle.rc_version.specs.laws.Staying.{version-kind}
+use Rattle.rc_partition.specs.List.{List as Slots}
+use Rattle.rc_partition.specs.Recency.{IsElsewhere, IsList, first}
+use Rattle.rc_partition.specs.Entries.{AreAscending}
+use Rattle.rc_partition.specs.Found.{at-once}
+use Rattle.rc_partition.specs.Orders.{ascending-split}
+use Rattle.rc_partition.specs.Trees.{stands-same}
+use Rattle.rc_partition.specs.Versions.{IsUnlisted, IsVersionOf}
+use Rattle.rc_partition.specs.Staying.{version-kind}
 use Rattle.rc_partition.specs.Partitions.{AreStanding, PartitionEntry, StandingVersion}
 use Rattle.rc_partition.specs.laws.Lists.{elem-cases, elem-first, elem-later, elem-none, elem-split}
 use Rattle.rc_partition.specs.laws.Listed.{stands-pushed, stands-removed, stands-touched, version-elsewhere}

@@ -7,8 +7,8 @@ use Rattle.lsa_pool.specs.laws.Usages.{decided}
 use Rattle.rc_position.specs.declared.positions.Pos.{Pos}
 use Rattle.rc_position.specs.Position.{pos_cmp}
 use Rattle.rc_position.specs.laws.Orders.{eq_by_cmp-same, pos_cmp_same, pos_cmp_total}
-use Rattle.rc_core.specs.declared.entries.ChainKind.TheVariants.{Cache}
-use Rattle.rc_core.specs.Version.{Version, end_position}
+use Rattle.rc_registry.specs.ChainKind.TheVariants.{Cache}
+use Rattle.rc_registry.specs.Version.{Version, end_position}
 use Rattle.rc_partition.specs.laws.Lists.{elem-cases, elem-first, elem-later, elem-left, elem-none, elem-pushed, elem-here, elem-replaced, elem-still, once-beside, once-with, once-without}
 use Rattle.rc_memory.specs.Memory.{KeptChain, Member, Memory, IsVersionAt, chain_at, on_chain, on_shown, on_version_of}
 use Rattle.rc_memory.specs.Recency.{HasObject, IsLastInner, IsRecency, IsUnderUpdate, MayBeListed, MustBeListed}

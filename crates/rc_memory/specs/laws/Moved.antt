@@ -7,11 +7,11 @@ use Rattle.lsa_store.specs.declared.place.Ref.{Ref}
 use Rattle.lsa_region.specs.Ends.{SlotCounts, named_as, end_as}
 use Rattle.lsa_region.specs.Region.{View, body, IsWell, Renamed}
 use Rattle.lsa_path.specs.laws.Renamed.{some-there}
-use Rattle.lsa_list.specs.declared.recency.List.{List as Slots}
-use Rattle.lsa_tree.specs.laws.Trees.{stands-renamed as entry-renamed}
-use Rattle.rc_core.specs.Version.{Version}
-use Rattle.rc_version.specs.Versions.{IsVersionOf}
-use Rattle.rc_version.specs.laws.Staying.{version-kind}
+use Rattle.rc_partition.specs.List.{List as Slots}
+use Rattle.rc_partition.specs.Trees.{stands-renamed as entry-renamed}
+use Rattle.rc_registry.specs.Version.{Version}
+use Rattle.rc_partition.specs.Versions.{IsVersionOf}
+use Rattle.rc_partition.specs.Staying.{version-kind}
 use Rattle.rc_partition.specs.Partitions.{AreStanding, PartitionEntry, StandingVersion, partition_as, version_as}
 use Rattle.rc_partition.specs.laws.Lists.{elem-map}
 use Rattle.rc_partition.specs.laws.Moved.{stands-renamed}

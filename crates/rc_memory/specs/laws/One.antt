@@ -2,7 +2,7 @@
 use Rattle.std.proofs.Common.{◌≡◌, ℕ, List, [], ◌∷◌, Option, Some, None, refl, sym, ap, ◌∙◌, subst, map}
 use Rattle.std.specs.Coded.{codes}
 use Rattle.lsa_region.specs.Region.{View}
-use Rattle.lsa_list.specs.declared.recency.List.{List as Slots}
+use Rattle.rc_partition.specs.List.{List as Slots}
 use Rattle.rc_partition.specs.Partitions.{PartitionEntry, roots_of}
 use Rattle.rc_partition.specs.laws.Same.{stands-once}
 use Rattle.rc_registry.specs.declared.uses.Use.{Use}

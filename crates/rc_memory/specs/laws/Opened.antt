@@ -7,9 +7,9 @@ use Rattle.lsa_region.specs.declared.end.End.{End}
 use Rattle.lsa_region.specs.declared.end.End.TheVariants.{Obj}
 use Rattle.lsa_region.specs.declared.end.Root.{Root}
 use Rattle.lsa_region.specs.Region.{View, link_of, IsRootAdded, IsRootDropped, IsWell, SameButRoots}
-use Rattle.lsa_list.specs.declared.recency.List.{List as Slots}
-use Rattle.lsa_tree.specs.laws.Trees.{stands-same}
-use Rattle.rc_core.specs.declared.entries.ChainKind.{ChainKind}
+use Rattle.rc_partition.specs.List.{List as Slots}
+use Rattle.rc_partition.specs.Trees.{stands-same}
+use Rattle.rc_registry.specs.ChainKind.{ChainKind}
 use Rattle.rc_partition.specs.Partitions.{AreStanding, PartitionEntry, StandingVersion, partition_of}
 use Rattle.rc_partition.specs.laws.Lists.{elem-none}
 use Rattle.rc_partition.specs.laws.Roots.{stands-with_empty, stands-without_empty}

@@ -7,11 +7,11 @@ use Rattle.std.proofs.lemmas.List.{map-append}
 use Rattle.rc_position.specs.declared.positions.Pos.{Pos}
 use Rattle.lsa_store.specs.declared.place.Ref.{Ref}
 use Rattle.lsa_region.specs.Region.{View, body, IsWell}
-use Rattle.lsa_list.specs.declared.recency.List.{List as Slots}
-use Rattle.lsa_tree.specs.laws.Orders.{stands-once}
-use Rattle.rc_version.specs.Versions.{IsVersionOf}
+use Rattle.rc_partition.specs.List.{List as Slots}
+use Rattle.rc_partition.specs.Orders.{stands-once}
+use Rattle.rc_partition.specs.Versions.{IsVersionOf}
 use Rattle.rc_partition.specs.Partitions.{AreStanding, PartitionEntry, StandingVersion, IsPartitionEntry, IsRowOfVersion, heads_of, roots_of}
-use Rattle.lsa_tree.specs.Entries.{IsEntryKind, SpellsEntryAt}
+use Rattle.rc_partition.specs.Entries.{IsEntryKind, SpellsEntryAt}
 use Rattle.rc_partition.specs.laws.Apart.{entry_apart, entry-once, entries-apart, one-version, static-kind}
 use Rattle.rc_partition.specs.laws.Lists.{elem-first, elem-later, elem-here, elem-map, once-head, once-tail}
 use Rattle.rc_memory.specs.Memory.{Member, IsObjectAt, IsOfVersion, IsVersionAt}

@@ -6,11 +6,11 @@ use Rattle.std.proofs.lemmas.List.{append-nil, length-append}
 use Rattle.lsa_pool.specs.laws.Usages.{decided}
 use Rattle.rc_cell.specs.declared.writes.Tomb.{Tomb}
 use Rattle.rc_position.specs.declared.positions.Pos.{Pos}
-use Rattle.rc_core.specs.declared.entries.ChainKind.TheVariants.{Cache}
-use Rattle.rc_core.specs.declared.entries.Flag.{Flag}
-use Rattle.rc_core.specs.Steps.{on_version, version_of}
-use Rattle.rc_core.specs.Version.{Version, end_position}
-use Rattle.rc_core.specs.laws.Surgery.{version-at}
+use Rattle.rc_registry.specs.ChainKind.TheVariants.{Cache}
+use Rattle.rc_registry.specs.Flag.{Flag}
+use Rattle.rc_registry.specs.Steps.{on_version, version_of}
+use Rattle.rc_registry.specs.Version.{Version, end_position}
+use Rattle.rc_registry.specs.Surgery.{version-at}
 use Rattle.rc_partition.specs.laws.Lists.{elem-here, elem-left, elem-pushed, elem-replaced, elem-still, once-beside, once-with, once-without}
 use Rattle.rc_registry.specs.Registry.{put}
 use Rattle.rc_memory.specs.Memory.{KeptChain, Member, Memory, IsVersionAt, chain_at, on_chain, on_shown, on_version_of}

@@ -3,8 +3,8 @@ use Rattle.std.proofs.Common.{◌≡◌, ◌≢◌, ◌⊎◌, ℕ, List, [], �
 use Rattle.std.specs.Prelude.{AllPairs, Contains}
 use Rattle.std.proofs.lemmas.List.{append-nil}
 use Rattle.rc_position.specs.declared.positions.Pos.{Pos}
-use Rattle.rc_core.specs.declared.entries.ChainKind.TheVariants.{Cache, Memtable}
-use Rattle.rc_core.specs.Version.{Version, end_position}
+use Rattle.rc_registry.specs.ChainKind.TheVariants.{Cache, Memtable}
+use Rattle.rc_registry.specs.Version.{Version, end_position}
 use Rattle.rc_partition.specs.laws.Lists.{elem-here, elem-left, elem-pushed, elem-replaced, elem-still, once-beside, once-with, once-without}
 use Rattle.rc_memory.specs.Memory.{KeptChain, Member, Memory, IsVersionAt, chain_at, on_chain, on_shown, on_version_of}
 use Rattle.rc_memory.specs.Recency.{HasObject, IsLastInner, IsRecency, IsUnderUpdate, MayBeListed}

@@ -10,14 +10,14 @@ use Rattle.rc_position.specs.declared.positions.Pos.{Pos}
 use Rattle.rc_position.specs.Position.{pos_cmp}
 use Rattle.rc_position.specs.laws.Orders.{eq_by_cmp-same, pos_cmp_same, pos_cmp_total}
 use Rattle.rc_rowcode.specs.Objects.{dummy_size}
-use Rattle.rc_core.specs.declared.entries.Entry.{Entry}
-use Rattle.rc_core.specs.declared.entries.Flag.{Flag}
-use Rattle.rc_core.specs.declared.entries.Mark.{Mark}
-use Rattle.rc_core.specs.AtPlace.{HasEntryAt}
-use Rattle.rc_core.specs.Change.{at_entry, changed, drop_at, dummy, lost_mark, split, split_by, take_out, with_first_gap, with_gap}
-use Rattle.rc_core.specs.Continuity.{with_entries, without_statics}
-use Rattle.rc_core.specs.Steps.{join_pt, on_version, set_flags, set_static_flag, set_tombs, with_flags, with_phase, with_tombs}
-use Rattle.rc_core.specs.Version.{EndsWithDummy, Version, end_position}
+use Rattle.rc_registry.specs.Entry.{Entry}
+use Rattle.rc_registry.specs.Flag.{Flag}
+use Rattle.rc_registry.specs.Mark.{Mark}
+use Rattle.rc_registry.specs.AtPlace.{HasEntryAt}
+use Rattle.rc_registry.specs.Change.{at_entry, changed, drop_at, dummy, lost_mark, split, split_by, take_out, with_first_gap, with_gap}
+use Rattle.rc_registry.specs.Continuity.{with_entries, without_statics}
+use Rattle.rc_registry.specs.Steps.{join_pt, on_version, set_flags, set_static_flag, set_tombs, with_flags, with_phase, with_tombs}
+use Rattle.rc_registry.specs.Version.{EndsWithDummy, Version, end_position}
 use Rattle.rc_partition.specs.laws.Lists.{elem-cases, elem-first, elem-later, elem-map, elem-mapped, elem-none}
 use Rattle.rc_memory.specs.Changes.{KeepsRows, position_and_row}
 use Rattle.rc_memory.specs.Recency.{HasObject, IsLastInner}

@@ -8,14 +8,14 @@ use Rattle.rc_cell.specs.declared.rows.Row.{Row}
 use Rattle.rc_cell.specs.declared.writes.Tomb.{Tomb}
 use Rattle.rc_position.specs.declared.positions.Pos.{Pos}
 use Rattle.rc_rowcode.specs.Objects.{dummy_size}
-use Rattle.rc_core.specs.declared.entries.ChainKind.TheVariants.{Cache}
-use Rattle.rc_core.specs.declared.entries.Entry.{Entry}
-use Rattle.rc_core.specs.declared.entries.Flag.{Flag}
-use Rattle.rc_core.specs.Chains.{Shown, IsPinned}
-use Rattle.rc_core.specs.Steps.{all_but, on_version, pinned, released, renumbered, version_of}
-use Rattle.rc_core.specs.Version.{Version, end_position}
-use Rattle.rc_core.specs.laws.Merged.{pin_of}
-use Rattle.rc_core.specs.laws.Pins.{pinned-or-new, released-pin}
+use Rattle.rc_registry.specs.ChainKind.TheVariants.{Cache}
+use Rattle.rc_registry.specs.Entry.{Entry}
+use Rattle.rc_registry.specs.Flag.{Flag}
+use Rattle.rc_registry.specs.Chains.{Shown, IsPinned}
+use Rattle.rc_registry.specs.Steps.{all_but, on_version, pinned, released, renumbered, version_of}
+use Rattle.rc_registry.specs.Version.{Version, end_position}
+use Rattle.rc_registry.specs.Merged.{pin_of}
+use Rattle.rc_registry.specs.Pins.{pinned-or-new, released-pin}
 use Rattle.rc_partition.specs.laws.Lists.{elem-cases, elem-first, elem-none, elem-pushed}
 use Rattle.rc_registry.specs.Registry.{put}
 use Rattle.rc_memory.specs.Memory.{KeptChain, on_chain, on_version_of, shown_detached, shown_pinned, shown_updating, shown_with, shown_without}

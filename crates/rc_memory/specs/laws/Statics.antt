@@ -7,10 +7,10 @@ use Rattle.lsa_kinds.specs.declared.kind.Kind.TheVariants.{Static}
 use Rattle.lsa_store.specs.declared.place.Ref.{Ref}
 use Rattle.lsa_region.specs.declared.end.Root.{Root}
 use Rattle.lsa_region.specs.Region.{View, body, IsSummed, IsWell}
-use Rattle.lsa_list.specs.declared.recency.List.{List as Slots}
-use Rattle.rc_core.specs.Version.{Version}
-use Rattle.rc_version.specs.Versions.{IsKeptBut, IsStaticsOf, IsVersionOf, IsWeighed}
-use Rattle.rc_version.specs.laws.Staying.{entries-kind}
+use Rattle.rc_partition.specs.List.{List as Slots}
+use Rattle.rc_registry.specs.Version.{Version}
+use Rattle.rc_partition.specs.Versions.{IsKeptBut, IsStaticsOf, IsVersionOf, IsWeighed}
+use Rattle.rc_partition.specs.Staying.{entries-kind}
 use Rattle.rc_partition.specs.Partitions.{AreStanding, IsRowOfVersion, IsRowOfAny, PartitionEntry, StandingVersion, among, partition_of, standing}
 use Rattle.rc_partition.specs.laws.Apart.{entry_apart, one-version, static-kind}
 use Rattle.rc_partition.specs.laws.Changed.{among-cases, beside-differs, other-among, other-differs, s-stands, this-among}

@@ -7,12 +7,12 @@ use Rattle.rc_position.specs.declared.positions.Pos.{Pos}
 use Rattle.lsa_store.specs.declared.place.Ref.{Ref}
 use Rattle.lsa_region.specs.declared.end.End.{End}
 use Rattle.lsa_region.specs.Region.{View, link_of, IsWell, SameObjects}
-use Rattle.lsa_list.specs.declared.recency.List.{List as Slots}
-use Rattle.lsa_list.specs.Recency.{IsElsewhere}
-use Rattle.rc_core.specs.Steps.{on_version}
-use Rattle.rc_core.specs.Version.{Version}
-use Rattle.rc_version.specs.Versions.{IsKeptBeside, IsKeptBut, IsVersionOf, MayChange}
-use Rattle.rc_version.specs.laws.Marked.{marked-itself, marked-objects, marked-then}
+use Rattle.rc_partition.specs.List.{List as Slots}
+use Rattle.rc_partition.specs.Recency.{IsElsewhere}
+use Rattle.rc_registry.specs.Steps.{on_version}
+use Rattle.rc_registry.specs.Version.{Version}
+use Rattle.rc_partition.specs.Versions.{IsKeptBeside, IsKeptBut, IsVersionOf, MayChange}
+use Rattle.rc_partition.specs.Marked.{marked-itself, marked-objects, marked-then}
 use Rattle.rc_partition.specs.Partitions.{PartitionEntry, StandingVersion, partition_of, standing}
 use Rattle.rc_registry.specs.Registry.{Registry, put}
 use Rattle.rc_memory.specs.declared.counts.Counts.{Counts}

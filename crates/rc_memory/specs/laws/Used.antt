@@ -2,11 +2,11 @@
 use Rattle.std.proofs.Common.{◌≡◌, ℕ, zero, suc, ◌+◌, List, [], ◌∷◌, Bool, Option, Some, None, IsSome, refl, sym, ap, ◌∙◌, slice_index_or}
 use Rattle.std.specs.Option.{option_map}
 use Rattle.lsa_region.specs.Region.{View}
-use Rattle.lsa_list.specs.declared.recency.List.{List as Slots}
+use Rattle.rc_partition.specs.List.{List as Slots}
 use Rattle.rc_partition.specs.Partitions.{PartitionEntry}
 use Rattle.rc_registry.specs.declared.uses.Use.{Use}
 use Rattle.rc_registry.specs.Registry.{Registry, put, on_use, detached, set_updating, set_passed, with_pin, without_pin}
-use Rattle.rc_core.specs.Steps.{pinned, released}
+use Rattle.rc_registry.specs.Steps.{pinned, released}
 use Rattle.rc_memory.specs.declared.counts.Counts.{Counts}
 use Rattle.rc_memory.specs.Memory.{KeptChain, Memory, HasChain, mark_passed, on_chain, on_shown, shown_detached, shown_pinned, shown_updating, with_chains}
 use Rattle.rc_memory.specs.Kept.{AreKept, HoldMemory, IsKeptChain, chain_of_use}

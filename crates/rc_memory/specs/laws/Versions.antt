@@ -8,11 +8,11 @@ use Rattle.lsa_store.specs.declared.place.Ref.{Ref}
 use Rattle.lsa_region.specs.declared.end.End.TheVariants.{Obj}
 use Rattle.lsa_region.specs.Ends.{SlotCounts}
 use Rattle.lsa_region.specs.Region.{View, link_of, slots_of, IsWell}
-use Rattle.lsa_list.specs.declared.recency.List.{List as Slots}
-use Rattle.rc_core.specs.Steps.{all_but, renumbered}
-use Rattle.rc_core.specs.Version.{Version}
-use Rattle.rc_version.specs.Versions.{IsUnlisted, IsVersionOf, MayChange}
-use Rattle.rc_version.specs.laws.Staying.{kept-same}
+use Rattle.rc_partition.specs.List.{List as Slots}
+use Rattle.rc_registry.specs.Steps.{all_but, renumbered}
+use Rattle.rc_registry.specs.Version.{Version}
+use Rattle.rc_partition.specs.Versions.{IsUnlisted, IsVersionOf, MayChange}
+use Rattle.rc_partition.specs.Staying.{kept-same}
 use Rattle.rc_partition.specs.Partitions.{AreStanding, IsRowOfVersion, PartitionEntry, StandingVersion, among, partition_of, standing}
 use Rattle.rc_partition.specs.laws.Apart.{one-version}
 use Rattle.rc_partition.specs.laws.Changed.{beside-differs, other-among, other-differs, this-among}

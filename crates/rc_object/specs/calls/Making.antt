@@ -1,7 +1,7 @@
 -- The bytes of an entry up to its row, and all of them.
 use Rattle.std.specs.Prelude.{◌≡◌, ℕ, ◌+◌, List, length, drop}
 use Rattle.lsa_kinds.specs.declared.kind.Kind.{Kind}
-use Rattle.lsa_store.specs.Objects.{rounded_size}
+use Rattle.lsa_region.specs.Objects.{rounded_size}
 use Rattle.rc_core.specs.declared.entries.Entry.{Entry}
 use Rattle.rc_position.specs.declared.positions.Pos.{Pos}
 use Rattle.rc_rowcode.specs.Spelling.{pos_code, IsPos}

@@ -16,7 +16,7 @@ use Rattle.lsa_kinds.specs.declared.kind.Kind.{Kind}
 use Rattle.lsa_kinds.specs.declared.kind.Kind.TheVariants.{Version, Static}
 use Rattle.lsa_kinds.specs.Fields.{number, number_at}
 use Rattle.lsa_segment.specs.Bytes.{overwritten}
-use Rattle.lsa_store.specs.declared.place.Ref.{Ref}
+use Rattle.lsa_region.specs.Ref.{Ref}
 use Rattle.lsa_region.specs.Region.{View, body}
 use Rattle.rc_object.specs.declared.heads.Head.{Head}
 use Rattle.rc_object.specs.Objects.{flag_code, presence, deletion_code, head_flags, entry_flags, SpellsHead, SpellsMarks, SpellsEntry, entry_kind, row_part, entry_of, HoldsRow, but_marks}

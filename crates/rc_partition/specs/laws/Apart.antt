@@ -14,9 +14,9 @@ use Rattle.lsa_region.specs.laws.Refs.{refs_decided}
 use Rattle.lsa_path.specs.laws.Passing.{path-once, paths-disjoint}
 use Rattle.lsa_path.specs.laws.Paths.{same_object}
 use Rattle.lsa_list.specs.Recency.{HasRecency}
-use Rattle.lsa_tree.specs.Entries.{IsEntryKind}
-use Rattle.lsa_tree.specs.laws.Trees.{no_entry_at}
-use Rattle.rc_object.specs.Objects.{HoldsStatic}
+use Rattle.rc_version.specs.Entries.{IsEntryKind}
+use Rattle.rc_version.specs.Trees.{no_entry_at}
+use Rattle.rc_version.specs.Objects.{HoldsStatic}
 use Rattle.rc_version.specs.Versions.{HasStatics, IsVersionOf, IsStaticsOf}
 use Rattle.rc_version.specs.laws.Staying.{version-kind, entries-kind, versions-apart}
 use Rattle.rc_partition.specs.Partitions.{StandingVersion, PartitionEntry, IsPartitionEntry, IsRowOfVersion, heads_of, roots_of}

@@ -17,7 +17,7 @@ use Rattle.lsa_path.specs.laws.Renamed.{some-there}
 use Rattle.lsa_list.specs.declared.recency.List.{List as Slots}
 use Rattle.lsa_list.specs.Recency.{HasRecency, AllHaveRecency}
 use Rattle.rc_core.specs.Version.{Version}
-use Rattle.rc_object.specs.Objects.{IsRewritten}
+use Rattle.rc_version.specs.Objects.{IsRewritten}
 use Rattle.rc_version.specs.Versions.{IsVersionOf, IsKeptBut, IsUnlisted, IsWeighed, version_bytes}
 use Rattle.rc_version.specs.laws.Staying.{version-kind}
 use Rattle.rc_partition.specs.Partitions.{StandingVersion, PartitionEntry, AreStanding, IsPartitionEntry, IsRowOfVersion, IsRowOfAny, among, heads_of, partition_of, partition_bytes, roots_of, standing}

@@ -19,7 +19,7 @@ use Rattle.lsa_region.specs.laws.Refs.{refs_decided}
 use Rattle.lsa_path.specs.laws.Renamed.{some-there}
 use Rattle.lsa_list.specs.declared.recency.List.{List as Slots}
 use Rattle.lsa_list.specs.Recency.{object_of}
-use Rattle.lsa_tree.specs.laws.Trees.{tree-pairs}
+use Rattle.rc_version.specs.Trees.{tree-pairs}
 use Rattle.rc_core.specs.declared.entries.Entry.{Entry}
 use Rattle.rc_rowcode.specs.Objects.{static_size}
 use Rattle.rc_version.specs.Versions.{tree_of, version_head, HasStatics, HoldEntries, IsVersionOf, IsStaticsOf, statics_bytes, entries_bytes, version_bytes}

@@ -7,7 +7,7 @@ use Rattle.lsa_region.specs.Region.{View}
 use Rattle.lsa_list.specs.declared.recency.List.{List as Slots}
 use Rattle.rc_core.specs.Version.{Version}
 use Rattle.rc_version.specs.Versions.{IsEntryFound, IsStaticsOf, IsVersionOf}
-use Rattle.rc_partition.specs.Partitions.{PartitionEntry, StandingVersion, standing}
+use Rattle.rc_memory.specs.Partitions.{PartitionEntry, StandingVersion, standing}
 use Rattle.rc_registry.specs.Registry.{Registry}
 use Rattle.rc_memory.specs.declared.counts.Counts.{Counts}
 use Rattle.rc_memory.specs.Memory.{KeptChain, Memory, IsMemberObject, IsObjectAt, IsOfVersion, IsVersionAt}

@@ -13,8 +13,8 @@ use Rattle.rc_core.specs.Version.{Version}
 use Rattle.rc_object.specs.Objects.{HoldsEntry, HoldsStatic}
 use Rattle.rc_version.specs.Versions.{HoldEntries}
 use Rattle.rc_version.specs.laws.Objects.{holds-stands}
-use Rattle.rc_partition.specs.laws.Apart.{static-holds}
-use Rattle.rc_partition.specs.laws.Lists.{elem-cases, elem-first, elem-later, elem-none}
+use Rattle.rc_memory.specs.Apart.{static-holds}
+use Rattle.rc_memory.specs.Lists.{elem-cases, elem-first, elem-later, elem-none}
 use Rattle.rc_registry.specs.Registry.{Registry}
 use Rattle.rc_memory.specs.declared.counts.Counts.{Counts}
 use Rattle.rc_memory.specs.Memory.{KeptChain, Memory, IsMemberObject, chain_at}

@@ -5,8 +5,8 @@ use Rattle.rc_mutation.specs.declared.mutations.Mutation.{Mutation}
 use Rattle.rc_core.specs.Chains.{AllInherit}
 use Rattle.rc_core.specs.Continuity.{EachOf}
 use Rattle.rc_core.specs.StandsFor.{StandsFor}
-use Rattle.rc_memory.specs.Memory.{Memory}
-use Rattle.rc_chain.specs.declared.chains.Snap.{Snap}
+use Rattle.rc_cursor.specs.Memory.{Memory}
+use Rattle.rc_cursor.specs.Snap.{Snap}
 use Rattle.rc_cursor.specs.Snapshots.{AreReadable, kind_seen, versions_seen}
 use Rattle.rc_snapshots.specs.Seeing.{AllStillSee, AreSameSnapshots, AreThere, HasSnap, NothingIsLost, SeesAllOf, StillSees, StillSeeBoth}
 use Rattle.rc_snapshots.specs.Streams.{SeesChanges}

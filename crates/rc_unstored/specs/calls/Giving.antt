@@ -1,7 +1,7 @@
 -- A snapshot that is given back at once.
 use Rattle.std.specs.Prelude.{Option, Some, None}
 use Rattle.rc_memory.specs.Memory.{Memory}
-use Rattle.rc_chain.specs.declared.chains.Snap.{Snap}
+use Rattle.rc_evict.specs.Snap.{Snap}
 use Rattle.rc_unstored.specs.Readers.{taken_back}
 
 -- the memory with a snapshot taken back, where there is one

@@ -1,6 +1,6 @@
 use Rattle.std.proofs.Common.{sym, subst, ◌∙◌, ◌<◌, arith}
 use Rattle.lsa_pool.specs.Room.{spare_of}
-use Rattle.lsa_store.specs.Stock.{sparse_of}
+use Rattle.lsa_region.specs.Stock.{sparse_of}
 use Rattle.lsa_region.specs.Region.{View}
 use Rattle.lsa_move.specs.Room.{Tight}
 use Rattle.lsa_move.proofs.Rounds.{IsMakingRoom, making-init, making-more, made-renamed, made-well, made-compacted, made-moved}

@@ -1,5 +1,5 @@
 use Rattle.std.proofs.Common.{subst, sym}
-use Rattle.lsa_yard.specs.Cells.{with_link}
+use Rattle.lsa_store.specs.Cells.{with_link}
 use Rattle.lsa_store.specs.Objects.{IsChangedIn}
 use Rattle.lsa_region.specs.declared.end.End.TheVariants.{Slot}
 use Rattle.lsa_region.specs.calls.Ends.{IsSetIn}

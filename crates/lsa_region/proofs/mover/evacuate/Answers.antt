@@ -1,5 +1,5 @@
 use Rattle.std.proofs.Common.{◌<◌, length, refl, sym, ◌∙◌, arith}
-use Rattle.lsa_pool.specs.laws.Usages.{closed-inside}
+use Rattle.lsa_store.specs.Usages.{closed-inside}
 use Rattle.lsa_store.specs.laws.Books.{stock-reserve}
 use Rattle.lsa_store.specs.laws.Sparse.{sparse-is}
 use Rattle.lsa_region.specs.calls.Moves.{view_in}

@@ -1,6 +1,6 @@
 use Rattle.std.proofs.Common.{◌≡◌, ◌+◌, ◌<◌, sym, ◌∙◌, subst, arith}
-use Rattle.lsa_yard.specs.Cells.{Cell, size_of}
-use Rattle.lsa_yard.specs.laws.Changes.{at-within}
+use Rattle.lsa_store.specs.Cells.{Cell, size_of}
+use Rattle.lsa_store.specs.Changes.{at-within}
 use Rattle.lsa_store.specs.declared.place.Ref.{Ref}
 use Rattle.lsa_store.specs.Objects.{cells_of, cell_in, live_in}
 use Rattle.lsa_store.specs.Stored.{Stored}

@@ -1,5 +1,5 @@
 use Rattle.std.proofs.Common.{◌≡◌, ◌-◌}
-use Rattle.lsa_yard.specs.Cells.{extent}
+use Rattle.lsa_store.specs.Cells.{extent}
 use Rattle.lsa_store.specs.declared.place.Ref.{Ref}
 use Rattle.lsa_store.specs.Objects.{cells_of}
 use Rattle.lsa_region.specs.calls.Moves.{view_in, IsSweeping}

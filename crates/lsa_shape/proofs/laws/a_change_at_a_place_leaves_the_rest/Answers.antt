@@ -1,5 +1,5 @@
 use Rattle.std.proofs.Common.{inl, inr, sym, subst, ◌≡◌, ◌⊎◌}
-use Rattle.lsa_store.specs.declared.place.Ref.{Ref}
+use Rattle.lsa_path.specs.Ref.{Ref}
 use Rattle.lsa_shape.specs.Shapes.{IsIn, IsOff}
 use Rattle.lsa_shape.specs.Ways.{plug}
 use Rattle.lsa_shape.specs.laws.Places.{plug-changed, inorder-plug}

@@ -1,5 +1,5 @@
 use Rattle.std.proofs.Common.{◌∷◌, ◌++◌}
-use Rattle.lsa_path.specs.laws.Members.{once-split}
+use Rattle.lsa_shape.specs.Members.{once-split}
 use Rattle.lsa_tree.specs.laws.Trees.{tree-pairs, tree-few}
 use Rattle.lsa_tree.proofs.laws.a_tree_has_each_entry_once.Goals as goal
 

@@ -1,7 +1,7 @@
 use Rattle.std.proofs.Common.{◌≡◌, ℕ, Some, IsSome, sym, ◌∙◌, subst, arith}
 use Rattle.lsa_region.specs.declared.end.End.TheVariants.{Obj}
 use Rattle.lsa_region.specs.Region.{link_of, IsEnd}
-use Rattle.lsa_path.specs.Path.{entered}
+use Rattle.lsa_shape.specs.Path.{entered}
 use Rattle.lsa_shape.specs.declared.flank.Flank.{Flank}
 use Rattle.lsa_tree.specs.calls.Placing.{IsRotated}
 use Rattle.lsa_tree.proofs.Changed.{same-body, rebalanced-body}

@@ -1,7 +1,7 @@
 use Rattle.std.proofs.Common.{◌≡◌, Some, IsSome, refl, sym, ◌∙◌, subst, arith}
 use Rattle.lsa_region.specs.declared.end.End.TheVariants.{Obj}
 use Rattle.lsa_region.specs.Region.{link_of, IsEnd}
-use Rattle.lsa_path.specs.Path.{entered}
+use Rattle.lsa_shape.specs.Path.{entered}
 use Rattle.lsa_tree.specs.calls.Placing.{IsMended}
 use Rattle.lsa_tree.proofs.Steps.{stepped-top, owner-body, owner-door, sink-heavy, sink-level, sink-child, sink-steep, sink-mended, sink-lowered}
 use Rattle.lsa_tree.proofs.mending.sink.Goals as goal

@@ -1,7 +1,7 @@
 -- The entries before the place stand before what is looked for, and those behind it behind; less hangs there each time.
 use Rattle.std.proofs.Common.{List}
 use Rattle.rc_position.specs.declared.positions.Pos.{Pos}
-use Rattle.lsa_store.specs.declared.place.Ref.{Ref}
+use Rattle.lsa_region.specs.Ref.{Ref}
 use Rattle.lsa_tree.specs.Tree.{IsTree}
 use Rattle.lsa_tree.specs.calls.Seeking.{IsSought}
 use Rattle.lsa_tree.proofs.Searches.{IsReachedAt}

@@ -1,7 +1,7 @@
 -- The entry that the way up has come to is one of the tree; fewer are above it each time.
 use Rattle.std.proofs.Common.{List}
 use Rattle.std.specs.Prelude.{Contains}
-use Rattle.lsa_store.specs.declared.place.Ref.{Ref}
+use Rattle.lsa_region.specs.Ref.{Ref}
 use Rattle.lsa_shape.specs.Shapes.{TreeShape, Node}
 use Rattle.lsa_shape.specs.Ways.{Fork, plug}
 use Rattle.lsa_tree.specs.declared.tree.Tree.{Tree}

@@ -1,6 +1,6 @@
 -- What is beside the entry that the way has come to is what was looked for.
 use Rattle.std.proofs.Common.{◌≡◌, List, ◌∷◌, ◌++◌, None}
-use Rattle.lsa_store.specs.declared.place.Ref.{Ref}
+use Rattle.lsa_region.specs.Ref.{Ref}
 use Rattle.lsa_region.specs.declared.end.End.TheVariants.{Obj}
 use Rattle.lsa_region.specs.Region.{link_of}
 use Rattle.lsa_shape.specs.Flanks.{near_link}

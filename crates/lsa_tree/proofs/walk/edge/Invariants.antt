@@ -1,6 +1,6 @@
 -- What is left below the end that was come to has the same outermost entry, and is smaller each time.
 use Rattle.std.proofs.Common.{◌≡◌, List, Some}
-use Rattle.lsa_store.specs.declared.place.Ref.{Ref}
+use Rattle.lsa_region.specs.Ref.{Ref}
 use Rattle.lsa_region.specs.declared.end.End.TheVariants.{Obj}
 use Rattle.lsa_shape.specs.Flanks.{near_link}
 use Rattle.lsa_shape.specs.Shapes.{TreeShape}

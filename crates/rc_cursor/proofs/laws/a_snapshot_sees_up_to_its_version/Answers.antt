@@ -1,5 +1,5 @@
 use Rattle.std.proofs.Common.{ap, ◌∙◌}
-use Rattle.rc_memory.specs.Memory.{chain_at}
+use Rattle.rc_chain.specs.Memory.{chain_at}
 use Rattle.rc_cursor.specs.Snapshots.{kind_in, versions_in, versions_upto}
 use Rattle.rc_cursor.proofs.Readable.{found}
 use Rattle.rc_cursor.proofs.laws.a_snapshot_sees_up_to_its_version.Goals as goal

@@ -1,7 +1,7 @@
 use Rattle.std.proofs.Common.{List, Option, None, IsSome, sym, ap, subst}
 use Rattle.std.specs.Prelude.{IsSomeAnd, slice_index_or}
 use Rattle.rc_core.specs.Steps.{pin_at}
-use Rattle.rc_memory.specs.Memory.{KeptChain}
+use Rattle.rc_chain.specs.Memory.{KeptChain}
 use Rattle.rc_cursor.specs.Snapshots.{kind_in, versions_in}
 use Rattle.rc_cursor.proofs.laws.a_snapshot_stays_where_objects_move.Goals as goal
 

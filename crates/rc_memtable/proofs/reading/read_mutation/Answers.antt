@@ -3,7 +3,7 @@ use Rattle.rc_cell.specs.Orders.{tomb_cmp}
 use Rattle.rc_cell.specs.Winner.{greatest}
 use Rattle.rc_core.specs.Chain.{content}
 use Rattle.rc_core.specs.Continuity.{static_states, version_tombs}
-use Rattle.rc_reading.specs.Reading.{IsRowGiven}
+use Rattle.rc_chain.specs.Reading.{IsRowGiven}
 use Rattle.rc_memtable.proofs.Seen.{said-of}
 use Rattle.rc_memtable.proofs.Standing.{static-marker, static-tomb}
 use Rattle.rc_memtable.proofs.Told.{says-the-same}

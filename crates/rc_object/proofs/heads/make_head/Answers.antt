@@ -1,6 +1,6 @@
 use Rattle.std.proofs.Common.{◌≡◌, length, ap, arith}
 use Rattle.lsa_kinds.specs.declared.kind.Kind.TheVariants.{Version}
-use Rattle.lsa_store.specs.Objects.{rounded_size}
+use Rattle.lsa_region.specs.Objects.{rounded_size}
 use Rattle.rc_object.proofs.heads.make_head.Goals as goal
 
 pub make-requires : goal.make-requires

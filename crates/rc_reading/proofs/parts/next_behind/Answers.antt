@@ -1,6 +1,6 @@
 use Rattle.std.proofs.Common.{arith, sym, subst}
 use Rattle.lsa_tree.specs.Search.{IsFound}
-use Rattle.rc_version.specs.Versions.{IsVersionOf}
+use Rattle.rc_partition.specs.Versions.{IsVersionOf}
 use Rattle.rc_reading.specs.calls.Gaps.{IsNextBehind}
 use Rattle.rc_reading.proofs.Nearest.{next-after, next-before, next-none}
 use Rattle.rc_reading.proofs.parts.next_behind.Goals as goal

@@ -1,6 +1,6 @@
 use Rattle.std.proofs.Common.{refl, arith, sym, subst}
 use Rattle.rc_core.specs.Parts.{IsReach}
-use Rattle.rc_version.specs.Versions.{IsVersionOf}
+use Rattle.rc_partition.specs.Versions.{IsVersionOf}
 use Rattle.rc_reading.specs.Reading.{read_versions}
 use Rattle.rc_reading.proofs.Laying.{last-below, last-held, placed}
 use Rattle.rc_reading.proofs.Nearest.{further, none-reach}

@@ -3,7 +3,7 @@ use Rattle.lsa_tree.specs.Search.{IsFound}
 use Rattle.rc_core.specs.laws.Spots.{position-reached}
 use Rattle.rc_core.specs.Slow.{spot_at}
 use Rattle.rc_core.specs.Version.{seen}
-use Rattle.rc_version.specs.laws.Holding.{each-earlier, never-all}
+use Rattle.rc_partition.specs.Holding.{each-earlier, never-all}
 use Rattle.rc_reading.specs.calls.Reading.{IsFindingRead}
 use Rattle.rc_reading.proofs.Findings.{found-gap, found-on}
 use Rattle.rc_reading.proofs.said.clustered.Goals as goal

@@ -6,7 +6,7 @@ use Rattle.rc_core.specs.Continuity.{version_tombs}
 use Rattle.rc_core.specs.laws.Losing.{tomb-alone}
 use Rattle.rc_object.specs.declared.heads.Head.{Head}
 use Rattle.rc_object.specs.Objects.{HoldsHead}
-use Rattle.rc_version.specs.Versions.{version_head}
+use Rattle.rc_partition.specs.Versions.{version_head}
 use Rattle.rc_reading.specs.Reading.{read_versions}
 use Rattle.rc_reading.proofs.Laying.{last-below, last-held, one-greater, placed}
 use Rattle.rc_reading.proofs.walk.greatest_tomb.Goals as goal

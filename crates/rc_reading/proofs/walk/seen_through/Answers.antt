@@ -4,7 +4,7 @@ use Rattle.rc_core.specs.declared.slow.Seen.{Seen}
 use Rattle.rc_core.specs.Merge.{Alike}
 use Rattle.rc_core.specs.Slow.{seen_state}
 use Rattle.rc_core.specs.SpotState.{through}
-use Rattle.rc_version.specs.Versions.{IsVersionOf}
+use Rattle.rc_partition.specs.Versions.{IsVersionOf}
 use Rattle.rc_reading.specs.calls.Reading.{states_read}
 use Rattle.rc_reading.proofs.Laying.{last-below, last-held, one-over, placed}
 use Rattle.rc_reading.proofs.walk.seen_through.Goals as goal

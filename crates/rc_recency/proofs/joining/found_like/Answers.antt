@@ -3,7 +3,7 @@ use Rattle.lsa_path.specs.laws.Renamed.{some-there}
 use Rattle.lsa_region.specs.Region.{body}
 use Rattle.lsa_tree.specs.laws.Trees.{no_entry_at}
 use Rattle.rc_version.specs.laws.Objects.{holds-kind, holds-stands, static-no_version}
-use Rattle.rc_partition.specs.laws.Apart.{entry_apart}
+use Rattle.rc_memory.specs.Apart.{entry_apart}
 use Rattle.rc_recency.proofs.Likes.{entry-kind, no-static, stands-like}
 use Rattle.rc_recency.proofs.joining.found_like.Goals as goal
 

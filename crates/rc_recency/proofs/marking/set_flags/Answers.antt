@@ -1,6 +1,6 @@
 use Rattle.std.proofs.Common.{refl, arith}
 use Rattle.rc_core.specs.Steps.{set_flags, with_flags}
-use Rattle.rc_partition.specs.laws.Bytes.{flags-bytes}
+use Rattle.rc_memory.specs.Bytes.{flags-bytes}
 use Rattle.rc_recency.proofs.Aligned.{positions-at}
 use Rattle.rc_recency.proofs.Marked.{entry-marked, entry-there}
 use Rattle.rc_recency.proofs.marking.set_flags.Goals as goal

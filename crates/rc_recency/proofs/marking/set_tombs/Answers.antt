@@ -1,6 +1,6 @@
 use Rattle.std.proofs.Common.{refl, arith}
 use Rattle.rc_core.specs.Steps.{set_tombs, with_tombs}
-use Rattle.rc_partition.specs.laws.Bytes.{tombs-bytes}
+use Rattle.rc_memory.specs.Bytes.{tombs-bytes}
 use Rattle.rc_recency.proofs.Aligned.{positions-at}
 use Rattle.rc_recency.proofs.Marked.{entry-marked, entry-there}
 use Rattle.rc_recency.proofs.marking.set_tombs.Goals as goal

@@ -1,7 +1,7 @@
 use Rattle.std.proofs.Common.{Some, ap, ◌∙◌, subst, arith}
 use Rattle.lsa_pool.specs.Room.{spare_of}
 use Rattle.lsa_tree.specs.laws.Orders.{stands-once}
-use Rattle.rc_partition.specs.laws.Lists.{elem-split}
+use Rattle.rc_memory.specs.Lists.{elem-split}
 use Rattle.rc_core.specs.Change.{drop_at}
 use Rattle.rc_core.specs.Continuity.{with_entries}
 use Rattle.rc_core.specs.Version.{end_position}

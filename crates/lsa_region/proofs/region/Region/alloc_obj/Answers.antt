@@ -1,5 +1,5 @@
 use Rattle.std.proofs.Common.{◌≡◌, ◌+◌, length, refl, ap, ◌∙◌, subst, arith}
-use Rattle.lsa_pool.specs.Room.{spare_of}
+use Rattle.lsa_store.specs.Room.{spare_of}
 use Rattle.lsa_store.specs.laws.Books.{stock-reserve}
 use Rattle.lsa_store.specs.laws.Written.{made-fresh, made-here, made-unset, made-others, made-words, made-count}
 use Rattle.lsa_region.specs.declared.end.End.{End}

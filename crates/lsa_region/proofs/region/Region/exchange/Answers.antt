@@ -1,5 +1,5 @@
 use Rattle.std.proofs.Common.{◌<◌, arith, refl, sym, subst}
-use Rattle.lsa_pool.specs.Room.{free_count}
+use Rattle.lsa_store.specs.Room.{free_count}
 use Rattle.lsa_region.specs.Region.{View, IsEnd, SameObjects}
 use Rattle.lsa_region.proofs.Regions.{region-exchange, same-objects}
 use Rattle.lsa_region.proofs.region.Region.exchange.Goals as goal

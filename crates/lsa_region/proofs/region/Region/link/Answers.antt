@@ -1,5 +1,5 @@
 use Rattle.std.proofs.Common.{◌≡◌, ◌<◌, None, refl, sym, subst}
-use Rattle.lsa_pool.specs.Room.{free_count}
+use Rattle.lsa_store.specs.Room.{free_count}
 use Rattle.lsa_region.specs.Region.{View, link_of, IsEnd, SameObjects}
 use Rattle.lsa_region.proofs.Regions.{region-tie, same-objects}
 use Rattle.lsa_region.proofs.region.Region.link.Goals as goal

@@ -1,7 +1,7 @@
 use Rattle.std.proofs.Common.{◌≡◌, ℕ, ◌+◌, ◌≤◌, ◌<◌, List, length, refl, sym, ap, ◌∙◌, subst}
 use Rattle.std.specs.Prelude.{IsSomeAnd}
-use Rattle.lsa_pool.specs.Room.{free_count}
-use Rattle.lsa_segment.specs.Bytes.{overwritten}
+use Rattle.lsa_store.specs.Room.{free_count}
+use Rattle.lsa_store.specs.Bytes.{overwritten}
 use Rattle.lsa_store.specs.laws.Written.{written-here, written-others, written-words, written-count}
 use Rattle.lsa_region.specs.declared.end.End.{End}
 use Rattle.lsa_region.specs.Region.{View, body, link_of, IsWritten, objects}

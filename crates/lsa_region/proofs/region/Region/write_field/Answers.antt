@@ -3,7 +3,7 @@ use Rattle.std.specs.Prelude.{IsSomeAnd}
 use Rattle.lsa_kinds.specs.declared.kind.Kind.{Kind}
 use Rattle.lsa_kinds.specs.Fields.{spelled, IsPut}
 use Rattle.lsa_kinds.specs.laws.Fields.{take-spelled}
-use Rattle.lsa_segment.specs.Bytes.{overwritten}
+use Rattle.lsa_store.specs.Bytes.{overwritten}
 use Rattle.lsa_region.specs.Region.{IsWritten, body}
 use Rattle.lsa_region.specs.laws.Fields.{number-written}
 use Rattle.lsa_region.proofs.region.Region.write_field.Goals as goal

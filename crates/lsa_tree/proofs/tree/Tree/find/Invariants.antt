@@ -1,6 +1,6 @@
 -- The entries before the place stand before what is looked for, and those behind it behind; so many were compared as the way has forks.
 use Rattle.std.proofs.Common.{◌≡◌, List, ℕ, ◌+◌, length}
-use Rattle.lsa_store.specs.declared.place.Ref.{Ref}
+use Rattle.lsa_region.specs.Ref.{Ref}
 use Rattle.lsa_shape.specs.Shapes.{TreeShape}
 use Rattle.lsa_shape.specs.Ways.{Fork}
 use Rattle.lsa_tree.specs.Tree.{IsTree}

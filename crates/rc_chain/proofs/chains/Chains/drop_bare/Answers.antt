@@ -1,7 +1,7 @@
 use Rattle.std.proofs.Common.{sym, ap, ◌∙◌, subst, arith}
 use Rattle.lsa_pool.specs.Room.{spare_of}
 use Rattle.lsa_region.specs.Region.{View}
-use Rattle.rc_partition.specs.Partitions.{AreStanding, StandingVersion, among, standing}
+use Rattle.rc_memory.specs.Partitions.{AreStanding, StandingVersion, among, standing}
 use Rattle.rc_memory.specs.Memory.{Memory}
 use Rattle.rc_memory.specs.Kept.{IsMemory}
 use Rattle.rc_memory.specs.laws.One.{kept-is}

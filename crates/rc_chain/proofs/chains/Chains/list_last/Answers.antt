@@ -4,7 +4,7 @@ use Rattle.rc_position.specs.declared.positions.Pos.{Pos}
 use Rattle.rc_memory.specs.Memory.{Memory}
 use Rattle.rc_memory.specs.Changes.{Nowhere, member}
 use Rattle.rc_memory.specs.laws.Still.{still-itself}
-use Rattle.rc_partition.specs.laws.Lists.{elem-here}
+use Rattle.rc_memory.specs.Lists.{elem-here}
 use Rattle.rc_chain.proofs.Ended.{last-one, may-last, same-listed, same-objects, true-false, under-version}
 use Rattle.rc_chain.proofs.chains.Chains.list_last.Goals as goal
 

@@ -2,12 +2,12 @@ use Rattle.std.proofs.Common.{◌≤◌, [], refl, sym, ap, ◌∙◌, subst, ar
 use Rattle.std.proofs.lemmas.List.{append-nil}
 use Rattle.lsa_pool.specs.Room.{spare_of}
 use Rattle.lsa_region.specs.Region.{View}
-use Rattle.rc_partition.specs.Partitions.{AreStanding}
+use Rattle.rc_memory.specs.Partitions.{AreStanding}
 use Rattle.rc_memory.specs.Memory.{Memory, listed_as}
 use Rattle.rc_memory.specs.Kept.{IsMemory, present}
 use Rattle.rc_memory.specs.laws.Counted.{room-for}
 use Rattle.rc_memory.specs.laws.One.{kept-is}
-use Rattle.rc_partition.specs.laws.Roots.{stands-with_empty}
+use Rattle.rc_reading.specs.Roots.{stands-with_empty}
 use Rattle.rc_chain.specs.Lives.{IsChainMade, IsSameButSlots}
 use Rattle.rc_chain.proofs.Living.{no-root, slot-same, slots-itself}
 use Rattle.rc_chain.proofs.Making.{IsPut, made-here, slot-here}

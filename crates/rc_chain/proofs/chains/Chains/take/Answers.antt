@@ -1,5 +1,5 @@
 use Rattle.std.proofs.Common.{◌++◌, inl, inr, refl, arith}
-use Rattle.rc_partition.specs.laws.Lists.{elem-split}
+use Rattle.rc_memory.specs.Lists.{elem-split}
 use Rattle.rc_memory.specs.Changes.{Nowhere}
 use Rattle.rc_memory.specs.laws.Still.{still-itself}
 use Rattle.rc_chain.proofs.Ended.{same-objects, true-false}

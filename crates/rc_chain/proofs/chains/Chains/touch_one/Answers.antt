@@ -1,7 +1,7 @@
 use Rattle.std.proofs.Common.{Some, sym, subst, arith}
 use Rattle.std.specs.Prelude.{Contains}
 use Rattle.rc_position.specs.Position.{row_pos}
-use Rattle.rc_partition.specs.laws.Lists.{elem-here, elem-split}
+use Rattle.rc_memory.specs.Lists.{elem-here, elem-split}
 use Rattle.rc_memory.specs.Changes.{Nowhere, member}
 use Rattle.rc_memory.specs.laws.Still.{still-itself}
 use Rattle.rc_chain.proofs.Ended.{same-objects, true-false}

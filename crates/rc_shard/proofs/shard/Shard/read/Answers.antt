@@ -1,6 +1,7 @@
 -- The reader's place is that of its id.
 use Rattle.std.proofs.Common.{◌≡◌, ◌==◌, ℕ, List, Some, None, position, refl, sym, ap, subst, arith}
 use Rattle.std.specs.Vec.{with_item}
+use Rattle.rc_machine.specs.State.{rest_of}
 use Rattle.rc_memory.specs.Memory.{Memory}
 use Rattle.rc_unstored.specs.Memtables.{in_chains}
 use Rattle.rc_opened.specs.declared.opened.Opened.{Opened}
@@ -16,7 +17,7 @@ read-requires c =
     let s = c.requires in
     let at = place-of c.args.id c.args.self.now.readers.items c.in-Some.at (subst (λ (os : List (ℕ × Opened)). position (λ reader. reader.0 == c.args.id) os ≡ Some c.in-Some.at) c.as_slice.ensures.value (sym c.in-Some.ensures)) in
     let f = found-at _ s.0 c.args.self.now s.1 c.args.id c.in-Some.at c.index_mut-reader.result.now s.2 at (sym c.index_mut-reader.ensures.value) in
-    (omega arith, (f.reader.rest, f.left))
+    (omega arith, (rest_of f.reader, f.left))
 
 pub returns-in_err-lines-in-Some-clause-err : goal.returns-in_err-lines-in-Some-clause-err
 returns-in_err-lines-in-Some-clause-err c =

@@ -1,6 +1,6 @@
 use Rattle.std.proofs.Common.{Option, subst}
 use Rattle.std.specs.Prelude.{IfSome}
-use Rattle.rc_chain.specs.declared.chains.Snap.{Snap}
+use Rattle.rc_evict.specs.Snap.{Snap}
 use Rattle.rc_snapshots.specs.Seeing.{HasSnap}
 use Rattle.rc_unstored.proofs.Leaving.{released-no-more}
 use Rattle.rc_unstored.proofs.unstored.Unstored.release_if.Goals as goal

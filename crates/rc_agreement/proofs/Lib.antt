@@ -1,0 +1,14 @@
+pub mod Ahead
+pub mod Clear
+pub mod Ending
+pub mod Heads
+pub mod Known
+pub mod Laid
+pub mod Nexts
+pub mod Orders
+pub mod Ranges
+pub mod Reread
+pub mod Rows
+pub mod Seen
+pub mod Standing
+pub mod Walked

@@ -1,0 +1,4 @@
+-- What inner functions of this crate promise each other; no public clause speaks of it.
+pub mod Gaps
+pub mod Passing
+pub mod Walking

@@ -1,0 +1,12 @@
+pub mod Kept
+pub mod Still
+pub mod Moving
+pub mod Leaving
+pub mod Cutting
+pub mod Behind
+pub mod Unread
+pub mod Called
+pub mod Saying
+pub mod Fresh
+pub mod Served
+pub mod Paged

@@ -1,0 +1,90 @@
+-- What is left of the snapshots after a page.
+use Rattle.std.proofs.Common.{◌≡◌, ℕ, Bool, false, List, Option, Some, None, refl, sym, ap, subst, ◌∙◌}
+use Rattle.std.specs.Option.{IfSome, IsSome, option_or}
+use Rattle.rc_mutation.specs.declared.mutations.Mutation.{Mutation}
+use Rattle.rc_memory.specs.Memory.{Memory}
+use Rattle.rc_chain.specs.declared.chains.Snap.{Snap}
+use Rattle.rc_stream.specs.Stream.{Stream}
+use Rattle.rc_filler.specs.Stands.{StandsForWrites}
+use Rattle.rc_snapshots.specs.Seeing.{SeesAllOf, StillSeeBoth, StillSees}
+use Rattle.rc_snapshots.specs.Streams.{SeesChanges}
+use Rattle.rc_cached.specs.declared.fillers.StreamFiller.{StreamFiller}
+use Rattle.rc_cached.specs.declared.readings.Readings.{Readings}
+use Rattle.rc_cached.specs.Streams.{OfCache}
+use Rattle.rc_paging.specs.declared.layers.HeldSnaps.{HeldSnaps}
+use Rattle.rc_paging.specs.declared.memtables.MemtableStream.{MemtableStream}
+use Rattle.rc_paging.specs.declared.pages.PageErr.TheVariants.{Missing, NoMemory}
+use Rattle.rc_paging.specs.Layers.{AreLayersOf, IsCacheLayerOf, IsMemtableLayerOf, OfLayers, active_in, cache_snap_in, cached_in, held_in, memtable_snap_in, sealed_in}
+use Rattle.rc_paging.specs.Pages.{StandCached, StandFor, readings_with, why}
+use Rattle.rc_paging.specs.calls.Keeping.{KeptLayers}
+use Rattle.rc_paging.specs.calls.Words.{IsReadIn, IsReaderIn}
+
+-- ---- the snapshots of layers
+
+memtable_own : (snap : Option Snap) (r : Option MemtableStream) → IsMemtableLayerOf snap r → memtable_snap_in r ≡ snap
+memtable_own None None is = refl
+memtable_own None (Some r) is = absurd is
+memtable_own (Some s) None is = absurd is
+memtable_own (Some s) (Some r) is = ap Some is.snap
+
+cache_own : (snap : Option Snap) (r : Option OfCache) → IsCacheLayerOf snap r → cache_snap_in r ≡ snap
+cache_own None None is = refl
+cache_own None (Some r) is = absurd is
+cache_own (Some s) None is = absurd is
+cache_own (Some s) (Some r) is = ap Some is.snap
+
+pub own_held : (held : HeldSnaps) (s : OfLayers) → AreLayersOf held s → held_in s ≡ held
+own_held held s are =
+    let sealed = memtable_own held.written.sealed (sealed_in s) are.sealed in
+    let active = memtable_own held.written.active (active_in s) are.active in
+    let cached = cache_own held.cached (cached_in s) are.cached in
+    λ i. record { cached = cached i; written = record { sealed = sealed i; active = active i } }
+
+-- ---- what they stand for
+
+stand_cached : (S : ℕ) (below : List Mutation) (m n : Memory) (w : Readings) (snap : Option Snap) (r : Option OfCache) → IsCacheLayerOf snap r → IsReaderIn S below n w r → StandCached S below m snap → StandCached S below n snap
+stand_cached S below m n w None None is reads stand = stand
+stand_cached S below m n w None (Some r) is reads stand = absurd is
+stand_cached S below m n w (Some s) None is reads stand = absurd is
+stand_cached S below m n w (Some s) (Some r) is reads stand =
+    let now = subst (λ (f : StreamFiller). StandsForWrites S n f.filler.chain f.filler.pin below) is.filler reads.stands in
+    record { ready = record { snapshot = now.snapshot; roomy = stand.ready.roomy }; stands = now }
+
+pub sees_still : (changes : List Mutation) (m n : Memory) → ((old new : Memory) (s : Snap) → SeesChanges changes old s → StillSees s old new → SeesChanges changes new s) → (snap : Option Snap) → ((s : Snap) → snap ≡ Some s → SeesChanges changes m s → StillSees s m n) → SeesAllOf changes m snap → SeesAllOf changes n snap
+sees_still changes m n law None still sees = sees
+sees_still changes m n law (Some s) still sees = law m n s sees (still s refl sees)
+
+pub stand_still : (S : ℕ) (held : HeldSnaps) (below writes later : List Mutation) (m n : Memory) (w v : Readings) (s t : OfLayers) → ((changes : List Mutation) (old new : Memory) (s : Snap) → SeesChanges changes old s → StillSees s old new → SeesChanges changes new s) →
+    KeptLayers S (s, m, w) (t, n, v) → AreLayersOf held s → IsReaderIn S below m w (cached_in s) → StandFor S m held below writes later → StandFor S n held below writes later
+stand_still S held below writes later m n w v s t law kept are reads stand = record {
+  cached = stand_cached S below m n v held.cached (cached_in t) (kept.layers held are).cached (kept.reader below reads) stand.cached;
+  sealed = sees_still writes m n (law writes) held.written.sealed (λ z _ sees. kept.chains.memtables z (record { pin = sees.pin; kind = sees.kind })) stand.sealed;
+  active = sees_still later m n (law later) held.written.active (λ z _ sees. kept.chains.memtables z (record { pin = sees.pin; kind = sees.kind })) stand.active;
+}
+
+-- ---- what was missed
+
+some_or : {X : Type 0} (a : Option X) (x : X) → IsSome (option_or a (Some x))
+some_or None x = refl
+some_or (Some y) x = refl
+
+pub missing_of : (snap : Option Snap) (read : Option Stream) (r : Option OfCache) (missed : Bool) → IsCacheLayerOf snap r → (IsReadIn (readings_with read) r → missed ≡ false) → why missed ≡ Missing → IsSome snap × (read ≡ None)
+missing_of (Some s) None r missed is h e = (refl, refl)
+missing_of None read None missed is h e = (let none : NoMemory ≡ Missing = sym (ap why (h tt)) ∙ e in absurd (cc))
+missing_of None read (Some r) missed is h e = absurd is
+missing_of (Some s) (Some l) None missed is h e = absurd is
+missing_of (Some s) (Some l) (Some r) missed is h e = (let none : NoMemory ≡ Missing = sym (ap why (h (some_or r.below.list l))) ∙ e in absurd (cc))
+
+-- ---- over other chains
+
+see_all : (changes : List Mutation) (m n : Memory) → ((old new : Memory) (s : Snap) → SeesChanges changes old s → StillSees s old new → SeesChanges changes new s) → (snap : Option Snap) → IfSome snap (λ s. StillSees s m n) → SeesAllOf changes m snap → SeesAllOf changes n snap
+see_all changes m n law None still sees = sees
+see_all changes m n law (Some s) still sees = law m n s sees still
+
+pub stand_over : (S : ℕ) (held : HeldSnaps) (m n : Memory) (below writes later : List Mutation) → ((changes : List Mutation) (old new : Memory) (s : Snap) → SeesChanges changes old s → StillSees s old new → SeesChanges changes new s) →
+    StandCached S below n held.cached → StillSeeBoth held.written m n → StandFor S m held below writes later → StandFor S n held below writes later
+stand_over S held m n below writes later law cached still stand = record {
+  cached = cached;
+  sealed = see_all writes m n (law writes) held.written.sealed still.sealed stand.sealed;
+  active = see_all later m n (law later) held.written.active still.active stand.active;
+}

@@ -1,0 +1,46 @@
+-- The lines are those of the answer behind the ones that were given before.
+use Rattle.std.proofs.Common.{◌≡◌, ◌++◌, arith, refl, length, take, drop, sym, ap, subst, ◌∙◌}
+use Rattle.std.specs.Prelude.{IfOk, nat_lt}
+use Rattle.rc_query.specs.Answer.{answer}
+use Rattle.rc_paging.specs.Pages.{StandFor}
+use Rattle.rc_paging.specs.Remainders.{after_lines, given_before}
+use Rattle.rc_paging.proofs.Paged.{go_on, same_left}
+use Rattle.rc_paging.proofs.pages.OpenReader.read.Goals as goal
+
+pub serve-gave-requires : goal.serve-gave-requires
+serve-gave-requires g c =
+    let l = c.requires.2 in
+    (omega arith, (c.requires.0, l.writes, l.later, subst (λ h. StandFor g.row.S c.args.chains.now h c.requires.0 l.writes l.later) (sym c.take_out-held.ensures.taken) l.stand, c.requires.3))
+
+pub returns-in-Ok-go_behind-clause-gives : goal.returns-in-Ok-go_behind-clause-gives
+returns-in-Ok-go_behind-clause-gives g c = λ below lines l say.
+    let stood = subst (λ h. StandFor g.row.S c.args.chains.now h below l.writes l.later) (sym c.take_out-held.ensures.taken) l.stand in
+    let e = subst (λ r. IfOk r (λ gave. gave.0 ≡ take c.args.count (drop (given_before c.args.self.now.remainder) (answer (below ++ (l.writes ++ l.later)) c.args.self.now.remainder.slice)))) c.in-Ok.is (c.serve-gave.ensures.gives l.schema below l.writes l.later l.of_tables l.of_sealed l.of_active stood say) in
+    e ∙ ap (take c.args.count) (sym l.are)
+
+pub returns-in-Ok-go_behind-clause-more : goal.returns-in-Ok-go_behind-clause-more
+returns-in-Ok-go_behind-clause-more g c = λ below lines l say.
+    let stood = subst (λ h. StandFor g.row.S c.args.chains.now h below l.writes l.later) (sym c.take_out-held.ensures.taken) l.stand in
+    let e = subst (λ r. IfOk r (λ gave. gave.1 ≡ nat_lt c.args.count (length (drop (given_before c.args.self.now.remainder) (answer (below ++ (l.writes ++ l.later)) c.args.self.now.remainder.slice))))) c.in-Ok.is (c.serve-gave.ensures.more l.schema below l.writes l.later l.of_tables l.of_sealed l.of_active stood say) in
+    e ∙ ap (λ ls. nat_lt c.args.count (length ls)) (sym l.are)
+
+pub returns-in-Ok-go_behind-clause-left : goal.returns-in-Ok-go_behind-clause-left
+returns-in-Ok-go_behind-clause-left g c = λ below lines l say.
+    let stood = subst (λ h. StandFor g.row.S c.args.chains.now h below l.writes l.later) (sym c.take_out-held.ensures.taken) l.stand in
+    let stand = subst (λ h. StandFor g.row.S c.serve-gave.new.chains h below l.writes l.later) (sym (c.put_back.ensures ∙ c.serve-gave.ensures.held)) (c.serve-gave.ensures.stand below l.writes l.later stood say) in
+    let e = subst (λ r. IfOk r (λ gave. gave.0 ≡ take c.args.count (drop (given_before c.args.self.now.remainder) (answer (below ++ (l.writes ++ l.later)) c.args.self.now.remainder.slice)))) c.in-Ok.is (c.serve-gave.ensures.gives l.schema below l.writes l.later l.of_tables l.of_sealed l.of_active stood say) in
+    go_on g.row.S c.args.chains.now c.serve-gave.new.chains c.args.self.now c.put_back.new.place c.go_behind.new.self below lines c.in-Ok.lines c.args.count l stand
+    (c.in-Ok-go_behind.ensures.ok ∙ ap (λ ls. after_lines ls c.args.self.now.remainder) c.as_slice.ensures)
+    (e ∙ ap (take c.args.count) (sym l.are))
+
+pub returns-in-Err-go_behind-clause-left : goal.returns-in-Err-go_behind-clause-left
+returns-in-Err-go_behind-clause-left g c = λ below lines l say.
+    let stood = subst (λ h. StandFor g.row.S c.args.chains.now h below l.writes l.later) (sym c.take_out-held.ensures.taken) l.stand in
+    let stand = subst (λ h. StandFor g.row.S c.serve-gave.new.chains h below l.writes l.later) (sym (c.put_back.ensures ∙ c.serve-gave.ensures.held)) (c.serve-gave.ensures.stand below l.writes l.later stood say) in
+    same_left g.row.S c.args.chains.now c.serve-gave.new.chains c.args.self.now c.put_back.new.place c.go_behind.new.self below lines l stand c.in-Err-go_behind.ensures.err
+
+pub returns-in-Err-clause-left : goal.returns-in-Err-clause-left
+returns-in-Err-clause-left g c = λ below lines l say.
+    let stood = subst (λ h. StandFor g.row.S c.args.chains.now h below l.writes l.later) (sym c.take_out-held.ensures.taken) l.stand in
+    let stand = subst (λ h. StandFor g.row.S c.serve-gave.new.chains h below l.writes l.later) (sym (c.put_back.ensures ∙ c.serve-gave.ensures.held)) (c.serve-gave.ensures.stand below l.writes l.later stood say) in
+    same_left g.row.S c.args.chains.now c.serve-gave.new.chains c.args.self.now c.put_back.new.place c.args.self.now.remainder below lines l stand refl

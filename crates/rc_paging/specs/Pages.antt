@@ -1,0 +1,72 @@
+-- What is left to an open reader over the chains that its snapshots are of, and why its calls are refused.
+--     StandFor        snapshots stand for what tables say, and for what is sealed and written since
+--     LinesAreLeft    these lines are left to an open reader
+--     IsKnownWhole    all of the partition is known to the row cache
+--     left_on         what is left of lines after a page
+use Rattle.std.specs.Prelude.{◌≡◌, ◌++◌, ℕ, Bool, false, cond, List, [], Option, IfSome, MatchOption, Result, Ok, Err, drop}
+use Rattle.rc_mutation.specs.declared.mutations.Mutation.{Mutation}
+use Rattle.rc_schema.specs.SchemaValue.{SchemaValue}
+use Rattle.rc_query.specs.declared.lines.OutLine.{OutLine}
+use Rattle.rc_query.specs.Answer.{answer}
+use Rattle.rc_core.specs.Version.{end_position}
+use Rattle.rc_memory.specs.Memory.{Memory}
+use Rattle.rc_chain.specs.declared.chains.Snap.{Snap}
+use Rattle.rc_stream.specs.Stream.{Stream}
+use Rattle.rc_cursor.specs.Snapshots.{IsHeadSeen, Knows}
+use Rattle.rc_cacheread.specs.Sharing.{IsAllKnown}
+use Rattle.rc_filler.specs.Fillers.{IsFillerReady}
+use Rattle.rc_filler.specs.Stands.{StandsForWrites}
+use Rattle.rc_snapshots.specs.Seeing.{SeesAllOf}
+use Rattle.rc_snapshots.specs.Streams.{first_position}
+use Rattle.rc_opened.specs.Opened.{AreChangesOf}
+use Rattle.rc_cached.specs.declared.readings.Readings.{Readings}
+use Rattle.rc_cached.specs.Streams.{filler_for}
+use Rattle.rc_paging.specs.declared.layers.HeldSnaps.{HeldSnaps}
+use Rattle.rc_paging.specs.declared.pages.OpenReader.{OpenReader}
+use Rattle.rc_paging.specs.declared.pages.PageErr.{PageErr}
+use Rattle.rc_paging.specs.declared.pages.PageErr.TheVariants.{Missing, NoMemory}
+use Rattle.rc_paging.specs.Remainders.{IsPlacedIn, given_before}
+
+-- readings that have this
+abbrev pub readings_with : Option Stream → Readings
+readings_with read = record { list = read; missed = false; begun = false }
+
+-- a snapshot of the row cache can be filled, and stands for these writes
+pub record StandsCached (S : ℕ) (below : List Mutation) (m : Memory) (s : Snap) : Type 0 where
+  pub ready : IsFillerReady S (filler_for s).filler m
+  pub stands : StandsForWrites S m s.chain s.pin below
+
+-- where there is a snapshot of the row cache, it stands for these writes; else there are none
+abbrev pub StandCached : ℕ → List Mutation → Memory → Option Snap → Type 0
+StandCached S below m snap = MatchOption snap (below ≡ []) (StandsCached S below m)
+
+-- the snapshots stand for what the tables say, for what is sealed, and for what is written since
+pub record StandFor (S : ℕ) (m : Memory) (held : HeldSnaps) (below writes later : List Mutation) : Type 0 where
+  pub cached : StandCached S below m held.cached
+  pub sealed : SeesAllOf writes m held.written.sealed
+  pub active : SeesAllOf later m held.written.active
+
+-- these lines are left to an open reader, where the tables say this: its snapshots stand for that, and for what is sealed and written since, such as the program has; of the answer to all of it, in what is left of the slice, they are those behind the lines that were given before
+pub record LinesAreLeft (S : ℕ) (m : Memory) (o : OpenReader) (below : List Mutation) (lines : List OutLine) : Type 0 where
+  pub schema : SchemaValue
+  pub writes : List Mutation
+  pub later : List Mutation
+  pub of_tables : AreChangesOf schema below
+  pub of_sealed : AreChangesOf schema writes
+  pub of_active : AreChangesOf schema later
+  pub stand : StandFor S m o.held below writes later
+  pub placed : IsPlacedIn (below ++ (writes ++ later)) o.remainder
+  pub are : lines ≡ drop (given_before o.remainder) (answer (below ++ (writes ++ later)) o.remainder.slice)
+
+-- all of the partition is known to the snapshot of the row cache, where there is one: the static row, and each position
+abbrev pub IsKnownWhole : Memory → Option Snap → Type 0
+IsKnownWhole m snap = IfSome snap (λ s. IsAllKnown (Knows m s) (IsHeadSeen m s) first_position end_position)
+
+-- what is left of lines after a page of so many; all of them, where it was refused
+abbrev pub left_on : {T : Type 0} → Result T PageErr → ℕ → List OutLine → List OutLine
+left_on (Ok given) n lines = drop n lines
+left_on (Err e) n lines = lines
+
+-- why a call was refused, by whether readings missed something: what was not read; else memory
+abbrev pub why : Bool → PageErr
+why missed = cond missed Missing NoMemory

@@ -1,0 +1,3 @@
+pub mod Saying
+pub mod Leaving
+pub mod Calls

@@ -1,0 +1,13 @@
+pub mod Changes
+pub mod Ranges
+pub mod Sides
+pub mod Rows
+pub mod Splicing
+pub mod Pieces
+pub mod Fitting
+pub mod Kept
+pub mod Answering
+pub mod GoingOn
+pub mod Ascending
+pub mod Behind
+pub mod Parting
