@@ -1,5 +1,5 @@
 -- Where each chain takes as much as before, and has as many versions.
-use Rattle.std.proofs.Common.{inl, inr, ◌≡◌, ◌≢◌, ◌+◌, ℕ, zero, suc, List, [], ◌∷◌, Option, Some, None, cond, length, map, refl, sym, ap, ◌∙◌, subst, slice_index_or, sum_by, le_refl, arith}
+use Rattle.std.proofs.Common.{inr, ◌≡◌, ◌+◌, ℕ, suc, List, [], ◌∷◌, Some, None, cond, length, map, refl, sym, ap, ◌∙◌, subst, slice_index_or, sum_by, arith}
 use Rattle.std.specs.Option.{option_map}
 use Rattle.std.specs.Prelude.{not}
 use Rattle.std.proofs.lemmas.List.Sums.{sum_by-cons}
@@ -7,14 +7,14 @@ use Rattle.rc_core.specs.declared.entries.ChainKind.{ChainKind}
 use Rattle.rc_core.specs.declared.entries.ChainKind.TheVariants.{Cache, Memtable}
 use Rattle.rc_core.specs.Steps.{with_phase}
 use Rattle.rc_core.specs.Version.{Version}
-use Rattle.rc_version.specs.Versions.{version_bytes}
+use Rattle.rc_partition.specs.Versions.{version_bytes}
 use Rattle.rc_memory.specs.Memory.{IsSnapshotTaken, KeptChain, Memory, chain_at, on_chain, on_shown, shown_detached, snapshot_number, with_chains, with_snapshot, without_snapshot}
 use Rattle.rc_memory.specs.Room.{chain_bytes}
 use Rattle.rc_memory.specs.laws.Places.{same_some}
-use Rattle.rc_chain.specs.Lives.{is_cache}
+use Rattle.rc_evict.specs.Lives.{is_cache}
 use Rattle.rc_memtable.specs.Partitions.{AreAsBefore}
 use Rattle.rc_entries.specs.Detached.{IsDetached}
-use Rattle.rc_entries.specs.Invalidated.{AreSameButPhases, IsInvalidated, KeepsReaders}
+use Rattle.rc_entries.specs.Invalidated.{IsInvalidated, KeepsReaders}
 use Rattle.rc_footprint.specs.Footprint.{bytes_of}
 use Rattle.rc_footprint.proofs.Leaving.{IsNoLarger, Leaves}
 use Rattle.rc_footprint.proofs.Numbered.{chain-here, changed-beside, changed-now, here-or-beside, none-is-none, there-or-not}

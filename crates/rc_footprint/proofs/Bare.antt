@@ -1,15 +1,15 @@
 -- What the chains of the cache take where nothing may be evicted: of each version its head and its end dummy.
-use Rattle.std.proofs.Common.{inl, inr, ◌≡◌, ◌≢◌, ◌⊎◌, ◌≤◌, ◌+◌, ◌*◌, ℕ, zero, suc, false, true, List, [], ◌∷◌, Option, Some, None, IsSome, length, cond, refl, sym, ap, ◌∙◌, subst, slice_index_or, sum_by, arith}
+use Rattle.std.proofs.Common.{inl, inr, ◌≡◌, ◌≢◌, ◌≤◌, ◌+◌, ◌*◌, ℕ, false, true, List, [], ◌∷◌, Option, Some, None, IsSome, length, cond, refl, sym, ap, ◌∙◌, subst, sum_by, arith}
 use Rattle.std.specs.Prelude.{Contains}
 use Rattle.std.proofs.lemmas.List.Sums.{sum_by-cons}
 use Rattle.rc_cell.specs.declared.rows.Row.{Row}
 use Rattle.rc_position.specs.declared.positions.Pos.{Pos}
-use Rattle.rc_core.specs.declared.entries.ChainKind.TheVariants.{Cache, Memtable}
+use Rattle.rc_core.specs.declared.entries.ChainKind.TheVariants.{Cache}
 use Rattle.rc_core.specs.declared.entries.Entry.{Entry}
 use Rattle.rc_core.specs.AtPlace.{HasEntryAt}
 use Rattle.rc_core.specs.Version.{Ascend, EndsWithDummy, IsVersion, Version, end_position}
 use Rattle.rc_core.specs.laws.Placed.{ahead_of, not_end}
-use Rattle.rc_version.specs.Versions.{bytes_at, entries_bytes, statics_bytes, version_bytes}
+use Rattle.rc_partition.specs.Versions.{bytes_at, entries_bytes, statics_bytes, version_bytes}
 use Rattle.rc_partition.specs.laws.Lists.{elem-none}
 use Rattle.rc_registry.specs.Registry.{AreFree}
 use Rattle.rc_memory.specs.Changes.{OfVersion, member}
@@ -19,7 +19,7 @@ use Rattle.rc_memory.specs.Recency.{HasObject, IsRecency, MustBeListed}
 use Rattle.rc_memory.specs.Room.{chain_bytes}
 use Rattle.rc_memory.specs.laws.Listing.{pos_decided}
 use Rattle.rc_memory.specs.laws.Recent.{there_at}
-use Rattle.rc_chain.specs.Lives.{is_cache}
+use Rattle.rc_evict.specs.Lives.{is_cache}
 use Rattle.rc_footprint.specs.Footprint.{AreInUse, HaveOneVersion, NoUpdateStands, cache_bytes, cache_snapshots, is_of, snapshots_of}
 use Rattle.rc_footprint.proofs.Weighed.{bytes-are, kind-or, weigh, weigh-cache, weigh-no-cache}
 use Rattle.rc_footprint.proofs.Sums.{added_by, sum-filter, sum-least, sum-times, through}
@@ -118,5 +118,10 @@ module _ (m : Memory) (rule : IsRecency m) (versions : (i j : ℕ) → OfVersion
     ]
 
     pub little-left : cache_bytes m ≤ 152 * cache_snapshots m
-    little-left = omega (arith, bytes-are Cache m, sum-least (weigh Cache) (λ k. 152 * pinning k) m.chains m.chains (λ id. few-at id (chain_at m id) refl),
-        sum-times (λ k. 152 * pinning k) pinning (λ k. refl) (present m.chains), sum-filter (is_of Cache) snapshots_of (present m.chains))
+    little-left = omega (
+      arith,
+      bytes-are Cache m,
+      sum-least (weigh Cache) (λ k. 152 * pinning k) m.chains m.chains (λ id. few-at id (chain_at m id) refl),
+      sum-times (λ k. 152 * pinning k) pinning (λ k. refl) (present m.chains),
+      sum-filter (is_of Cache) snapshots_of (present m.chains),
+    )

@@ -1,9 +1,9 @@
 -- What the calls of the row cache leave of memtables' chains, and of how many versions its own chains have.
-use Rattle.std.proofs.Common.{◌≡◌, ℕ, zero, suc, List, [], Option, refl, sym, ap}
+use Rattle.std.proofs.Common.{ℕ, zero, suc, List, [], Option, refl, sym, ap}
 use Rattle.rc_cell.specs.declared.rows.Row.{Row}
 use Rattle.rc_cell.specs.declared.writes.Tomb.{Tomb}
 use Rattle.rc_memory.specs.Memory.{Memory, with_dropped}
-use Rattle.rc_chain.specs.declared.chains.Snap.{Snap}
+use Rattle.rc_evict.specs.Snap.{Snap}
 use Rattle.rc_populate.specs.Filling.{given}
 use Rattle.rc_stream.specs.Did.{StepsInTurn}
 use Rattle.rc_filler.specs.Fills.{IsFillDone}

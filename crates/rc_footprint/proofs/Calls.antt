@@ -1,22 +1,21 @@
 -- What the calls of a shard's memory leave of memtables' chains, and of how many versions chains of the cache have.
-use Rattle.std.proofs.Common.{inl, inr, ◌≡◌, ◌⊎◌, ℕ, zero, suc, Bool, true, false, List, [], ◌∷◌, Option, Some, None, IsSome, length, refl, sym, ap, ◌∙◌, subst, le_refl}
+use Rattle.std.proofs.Common.{inl, inr, ◌≡◌, ℕ, suc, Bool, true, false, List, [], ◌∷◌, Option, Some, None, IsSome, length, refl, sym, ap, ◌∙◌}
 use Rattle.std.specs.Prelude.{IsSomeAnd}
 use Rattle.rc_cell.specs.declared.rows.Row.{Row}
 use Rattle.rc_cell.specs.declared.writes.Tomb.{Tomb}
 use Rattle.rc_core.specs.declared.entries.ChainKind.TheVariants.{Cache, Memtable}
 use Rattle.rc_core.specs.Steps.{on_newest, pin_at}
 use Rattle.rc_core.specs.Version.{Version}
-use Rattle.rc_memory.specs.Memory.{HasPin, KeptChain, Member, Memory, chain_at, counts_raised, on_shown, with_dropped, without_snapshot}
-use Rattle.rc_memory.specs.Room.{chain_bytes}
+use Rattle.rc_memory.specs.Memory.{HasPin, KeptChain, Member, Memory, chain_at, on_shown, without_snapshot}
 use Rattle.rc_memory.specs.laws.Places.{same_some}
-use Rattle.rc_chain.specs.declared.chains.Snap.{Snap}
-use Rattle.rc_chain.specs.Lives.{IsChainDropped}
+use Rattle.rc_evict.specs.Snap.{Snap}
+use Rattle.rc_evict.specs.Lives.{IsChainDropped}
 use Rattle.rc_evict.specs.Evictions.{IsRoomMade}
 use Rattle.rc_memtable.specs.LetGo.{IsFreedUnpinned}
-use Rattle.rc_populate.specs.Filling.{IsEntryOpened, chain_opened, given, on_newest_of}
-use Rattle.rc_filler.specs.Fills.{IsFillDone, IsPortionFilled, IsPortionTaken, IsSkipCounted, Portion, filled_with}
+use Rattle.rc_populate.specs.Filling.{IsEntryOpened, chain_opened, on_newest_of}
+use Rattle.rc_filler.specs.Fills.{IsFillDone, IsPortionFilled, Portion, filled_with}
 use Rattle.rc_unstored.specs.Readers.{IsReleased, taken_back}
-use Rattle.rc_footprint.proofs.Alike.{alike-back, alike-leaves, alike-taken}
+use Rattle.rc_footprint.proofs.Alike.{alike-back, alike-leaves}
 use Rattle.rc_footprint.proofs.Leaving.{Leaves, UseLaws, leaves-changed, leaves-evicted, leaves-gone, leaves-opened, leaves-same, leaves-then}
 use Rattle.rc_footprint.proofs.Numbered.{changed-now}
 

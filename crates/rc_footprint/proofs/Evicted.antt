@@ -1,5 +1,5 @@
 -- What is evicted makes no chain larger.
-use Rattle.std.proofs.Common.{◌≡◌, ◌≤◌, ◌+◌, ℕ, zero, suc, Bool, true, false, cond, List, [], ◌∷◌, Option, Some, None, refl, ap, sum_by, le_refl, arith}
+use Rattle.std.proofs.Common.{◌≡◌, ◌≤◌, ◌+◌, ℕ, zero, suc, true, false, cond, List, [], ◌∷◌, Option, Some, None, refl, ap, sum_by, le_refl, arith}
 use Rattle.std.specs.Prelude.{nat_eq}
 use Rattle.std.specs.Ordering.{eq_by_cmp}
 use Rattle.std.proofs.lemmas.List.Sums.{sum_by-cons}
@@ -11,7 +11,7 @@ use Rattle.rc_core.specs.Change.{drop_at, lose_last_gap, lost_mark, take_out, wi
 use Rattle.rc_core.specs.Continuity.{with_entries}
 use Rattle.rc_core.specs.Steps.{on_version}
 use Rattle.rc_core.specs.Version.{Version, end_position}
-use Rattle.rc_version.specs.Versions.{entries_bytes, entry_bytes, statics_bytes, version_bytes}
+use Rattle.rc_partition.specs.Versions.{entries_bytes, entry_bytes, statics_bytes, version_bytes}
 use Rattle.rc_memory.specs.Memory.{KeptChain, Member, on_shown, on_version_of}
 use Rattle.rc_memory.specs.Room.{chain_bytes}
 use Rattle.rc_evict.specs.Evictions.{evicted_at, evicted_of}

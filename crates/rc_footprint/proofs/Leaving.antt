@@ -1,9 +1,7 @@
 -- What calls leave of memtables' chains, and of how many versions chains of the cache have, number by number.
 --     IsLeft      what stands at a number is of a kind, and has as many versions, as what stood there, and of a memtable it takes no more; or it is a chain of the cache of one version
 --     Leaves      so at each number
-use Rattle.std.proofs.Common.{inl, inr, ◌≡◌, ◌≢◌, ◌⊎◌, ◌≤◌, ℕ, zero, suc, List, [], ◌∷◌, Option, Some, None, length, refl, sym, ap, ◌∙◌, subst, slice_index_or, le_refl, arith}
-use Rattle.std.specs.Option.{option_map}
-use Rattle.std.specs.Prelude.{Contains}
+use Rattle.std.proofs.Common.{inl, inr, ◌≡◌, ◌⊎◌, ◌≤◌, ℕ, List, Option, Some, None, length, refl, sym, ap, ◌∙◌, subst, slice_index_or, le_refl, arith}
 use Rattle.rc_core.specs.declared.entries.ChainKind.TheVariants.{Cache, Memtable}
 use Rattle.rc_registry.specs.Registry.{put}
 use Rattle.rc_memory.specs.Memory.{KeptChain, Member, Memory, chain_at, on_chain}

@@ -1,7 +1,6 @@
 -- A write that was put is of a memtable: what the chains of the cache take is as it was.
-use Rattle.std.proofs.Common.{inl, inr, ◌≡◌, ◌≢◌, ◌⊎◌, ◌≤◌, ◌+◌, ℕ, Bool, true, false, cond, List, Option, Some, None, refl, sym, ap, ◌∙◌, subst, arith}
+use Rattle.std.proofs.Common.{inl, inr, ◌≡◌, ◌≤◌, ◌+◌, ℕ, cond, List, Option, Some, None, refl, sym, ap, ◌∙◌, subst, arith}
 use Rattle.std.specs.Cmp.{eq_by_cmp_equiv}
-use Rattle.rc_position.specs.Position.{bytes_cmp}
 use Rattle.rc_position.specs.laws.Orders.{bytes_cmp_total}
 use Rattle.rc_schema.specs.SchemaValue.{SchemaValue}
 use Rattle.rc_mutation.specs.declared.mutations.Write.{Write}
@@ -15,7 +14,7 @@ use Rattle.rc_memtable.specs.Steps.{IsApplied}
 use Rattle.rc_memtable.specs.Writes.{HasWrites, chain_of}
 use Rattle.rc_row_cache.specs.Leaving.{AreCachesSame}
 use Rattle.rc_footprint.specs.Footprint.{IsLiveInChains, cache_bytes, memtable_bytes}
-use Rattle.rc_footprint.proofs.Numbered.{here-or-beside, none-is-none, there-or-not}
+use Rattle.rc_footprint.proofs.Numbered.{here-or-beside, none-is-none}
 use Rattle.rc_footprint.proofs.Sums.{added_by}
 use Rattle.rc_footprint.proofs.Weighed.{bytes-same, kind-or, live-of-both, weigh, weigh-no-cache}
 

@@ -1,12 +1,12 @@
 -- Where room was made memtables take as much as before, if the recency list keeps its rule; so they do where something of the cache is made or filled then.
-use Rattle.std.proofs.Common.{inl, inr, ◌≡◌, ◌≢◌, ◌⊎◌, ℕ, List, [], Option, Some, None, refl, sym, ap, ◌∙◌, subst, slice_index_or}
+use Rattle.std.proofs.Common.{inl, inr, ◌≡◌, ℕ, List, [], Option, Some, None, refl, sym, ap, ◌∙◌, slice_index_or}
 use Rattle.rc_cell.specs.declared.rows.Row.{Row}
 use Rattle.rc_cell.specs.declared.writes.Tomb.{Tomb}
 use Rattle.rc_core.specs.declared.entries.ChainKind.TheVariants.{Cache, Memtable}
 use Rattle.rc_memory.specs.Memory.{KeptChain, Member, Memory, chain_at, on_shown, with_dropped}
 use Rattle.rc_memory.specs.Recency.{IsRecency}
 use Rattle.rc_memory.specs.laws.Places.{same_some}
-use Rattle.rc_chain.specs.declared.chains.Snap.{Snap}
+use Rattle.rc_evict.specs.Snap.{Snap}
 use Rattle.rc_evict.specs.Evictions.{AreEvicted, IsRoomMade, evicted_of}
 use Rattle.rc_populate.specs.Filling.{IsEntryOpened, chain_opened, given, on_newest_of}
 use Rattle.rc_filler.specs.Fills.{IsFillDone, IsPortionFilled, Portion, filled_with}

@@ -1,5 +1,5 @@
 -- That no chain of the cache is to be dropped, after what is done to the memory.
-use Rattle.std.proofs.Common.{inl, inr, ◌≡◌, ◌≢◌, ◌⊎◌, ℕ, zero, suc, true, false, Bool, List, [], ◌∷◌, ◌++◌, Option, Some, None, cond, length, refl, sym, ap, ◌∙◌, subst, slice_index_or}
+use Rattle.std.proofs.Common.{inl, inr, ◌≡◌, ◌≢◌, ◌⊎◌, ℕ, true, false, cond, List, [], ◌∷◌, Option, Some, None, refl, sym, ap, ◌∙◌, subst, slice_index_or}
 use Rattle.std.specs.Prelude.{Contains}
 use Rattle.std.proofs.lemmas.List.Elements.{Contains-append_cases, Contains-append_right}
 use Rattle.lsa_pool.specs.laws.Usages.{decided}
@@ -8,16 +8,15 @@ use Rattle.rc_cell.specs.declared.writes.Tomb.{Tomb}
 use Rattle.rc_position.specs.declared.positions.Pos.{Pos}
 use Rattle.rc_core.specs.declared.entries.ChainKind.TheVariants.{Cache}
 use Rattle.rc_core.specs.Chains.{IsPinned}
-use Rattle.rc_core.specs.Steps.{pin_at, pinned}
+use Rattle.rc_core.specs.Steps.{on_newest, pin_at, pinned, with_phase}
 use Rattle.rc_core.specs.Version.{end_position}
 use Rattle.rc_core.specs.laws.Pins.{pin-is-pinned, pinned-by-number}
 use Rattle.rc_partition.specs.laws.Lists.{elem-cases, elem-first, elem-later, elem-left, elem-none}
 use Rattle.rc_registry.specs.Registry.{AreFree, IsNumberIn, put}
 use Rattle.rc_memory.specs.Changes.{member}
-use Rattle.rc_memory.specs.Memory.{IsSnapshotTaken, KeptChain, Member, Memory, chain_at, on_chain, on_shown, shown_detached, snapshot_number, with_chains, with_dropped, with_snapshot, without_snapshot}
+use Rattle.rc_memory.specs.Memory.{IsSnapshotTaken, KeptChain, Member, Memory, chain_at, on_chain, on_shown, shown_detached, shown_with, snapshot_number, with_chains, with_snapshot, without_snapshot}
 use Rattle.rc_memory.specs.laws.Places.{same_some}
-use Rattle.rc_chain.specs.Lives.{IsChainDropped, IsIdle, relabelled}
-use Rattle.rc_chain.specs.laws.PlaceBeside.{relabelled-by}
+use Rattle.rc_evict.specs.Lives.{IsChainDropped, IsIdle, relabelled}
 use Rattle.rc_evict.specs.Evictions.{AreEvicted, evicted_of}
 use Rattle.rc_memtable.specs.Partitions.{AreAsBefore, IsAsBefore}
 use Rattle.rc_populate.specs.Filling.{IsEntryOpened, chain_opened, on_newest_of, opened_places}
@@ -231,7 +230,7 @@ number-or (n ∷ ids) id = elim (decided n id) [
 
 module _ (laws : LeftLaws) (ids : List ℕ) (phase : ℕ) (old new : Memory) (settled : (id : ℕ) (k : KeptChain) → IsNumberIn ids id → chain_at old id ≡ Some k → k.chain.updating ≡ false) (h : IsInvalidated ids phase old new) where
   relabelled-use : (k : KeptChain) → IsUsedSame k (relabelled phase k)
-  relabelled-use k = relabelled-by (IsUsedSame k) phase k (λ found. record { kind = refl; updating = refl; pins = refl }) (used-itself k)
+  relabelled-use k = elim k.chain.attached as (λ b. IsUsedSame k (cond b (on_shown (λ c. shown_with (on_newest (with_phase phase) c.versions) c) k) k)) [ true ↦ record { kind = refl; updating = refl; pins = refl } | false ↦ used-itself k ]
 
   left-use : (id : ℕ) (k n : KeptChain) → chain_at old id ≡ Some k → chain_at new id ≡ Some n → IsUsedSame k n
   left-use id k n there e = elim (number-or ids id) [

@@ -1,9 +1,9 @@
 -- That no chain of the cache is to be dropped, over the calls of a shard and of the row cache.
-use Rattle.std.proofs.Common.{◌≡◌, ℕ, List, [], Option, refl, ap}
+use Rattle.std.proofs.Common.{ℕ, List, [], Option, refl, ap}
 use Rattle.rc_cell.specs.declared.rows.Row.{Row}
 use Rattle.rc_cell.specs.declared.writes.Tomb.{Tomb}
 use Rattle.rc_memory.specs.Memory.{Memory, with_dropped}
-use Rattle.rc_chain.specs.declared.chains.Snap.{Snap}
+use Rattle.rc_evict.specs.Snap.{Snap}
 use Rattle.rc_evict.specs.Evictions.{IsRoomMade}
 use Rattle.rc_populate.specs.Filling.{given}
 use Rattle.rc_row_cache.specs.Calls.{IsEntered, IsKeptOut}

@@ -1,5 +1,5 @@
 -- What each chain adds to what the chains of its kind take.
-use Rattle.std.proofs.Common.{inl, inr, ◌≡◌, ◌⊎◌, ◌≤◌, ◌+◌, ℕ, Bool, true, false, List, Option, Some, None, refl, sym, ap, ◌∙◌, slice_index_or, cond, sum_by, le_refl, arith}
+use Rattle.std.proofs.Common.{inl, inr, ◌≡◌, ◌⊎◌, ◌≤◌, ◌+◌, ℕ, refl, ap, cond, sum_by, arith}
 use Rattle.std.specs.Prelude.{not}
 use Rattle.lsa_region.specs.Region.{live_bytes}
 use Rattle.rc_core.specs.declared.entries.ChainKind.{ChainKind}
@@ -7,7 +7,7 @@ use Rattle.rc_core.specs.declared.entries.ChainKind.TheVariants.{Cache, Memtable
 use Rattle.rc_memory.specs.Kept.{present}
 use Rattle.rc_memory.specs.Memory.{KeptChain, Memory, chain_at}
 use Rattle.rc_memory.specs.Room.{chain_bytes}
-use Rattle.rc_chain.specs.Lives.{is_cache}
+use Rattle.rc_evict.specs.Lives.{is_cache}
 use Rattle.rc_footprint.specs.Footprint.{IsLiveInChains, bytes_of, cache_bytes, is_of, memtable_bytes}
 use Rattle.rc_footprint.proofs.Sums.{added_by, sum-both, sum-filter, sum-least, through}
 

@@ -6,14 +6,14 @@
 --     NoUpdateStands    no update stands in a chain of the cache
 --     AreInUse          no chain of the cache is to be dropped
 --     cache_snapshots   how many snapshots of chains of the cache are taken
-use Rattle.std.specs.Prelude.{◌≡◌, ℕ, Bool, false, not, List, Option, Some, filter, length, sum_by}
+use Rattle.std.specs.Prelude.{◌≡◌, ℕ, Bool, false, not, Some, filter, length, sum_by}
 use Rattle.lsa_region.specs.Region.{live_bytes}
 use Rattle.rc_core.specs.declared.entries.ChainKind.{ChainKind}
 use Rattle.rc_core.specs.declared.entries.ChainKind.TheVariants.{Cache, Memtable}
 use Rattle.rc_memory.specs.Kept.{present}
 use Rattle.rc_memory.specs.Memory.{KeptChain, Memory, chain_at}
 use Rattle.rc_memory.specs.Room.{chain_bytes}
-use Rattle.rc_chain.specs.Lives.{IsIdle, is_cache}
+use Rattle.rc_evict.specs.Lives.{IsIdle, is_cache}
 
 -- whether a chain is of a kind
 abbrev pub is_of : ChainKind → KeptChain → Bool
