@@ -13,7 +13,7 @@ ghost use Rattle.rc_core.specs.Version.{IsVersion};
 ghost use Rattle.rc_registry.specs.Registry.{IsNumberIn};
 ghost use Rattle.rc_memory.specs.Changes.{OfVersion, member};
 ghost use Rattle.rc_memory.specs.Kept.{IsSoundChain};
-ghost use Rattle.rc_memory.specs.Memory.{HasPin, IsSnapshotTaken, IsUntouched, KeptChain, Member, Memory, chain_at, on_chain, with_chains, without_snapshot};
+ghost use Rattle.rc_memory.specs.Memory.{HasPin, IsSnapshotTaken, IsUntouched, KeptChain, Member, Memory, chain_at};
 ghost use Rattle.rc_memory.specs.Recency.{IsRecency};
 ghost use Rattle.rc_evict.specs.Snap.{Snap};
 ghost use Rattle.rc_evict.specs.Lives.{IsChainDropped, IsIdle};
@@ -28,7 +28,7 @@ ghost use Rattle.rc_filler.specs.Fills.{IsFillDone, IsPortionFilled, Portion};
 ghost use Rattle.rc_snapshots.specs.Seeing.{HasSnap};
 ghost use Rattle.rc_unstored.specs.declared.unstored.Unstored.{Unstored};
 ghost use Rattle.rc_unstored.specs.Memtables.{HaveWrites};
-ghost use Rattle.rc_unstored.specs.Readers.{IsReleased};
+ghost use Rattle.rc_unstored.specs.Readers.{IsReleased, taken_back};
 ghost use Rattle.rc_unstored.specs.Steps.{IsNotPut, IsPutBehind, IsPutRefused};
 ghost use Rattle.rc_row_cache.specs.Calls.{IsEntered, IsKeptOut, IsTakenOf};
 ghost use Rattle.rc_row_cache.specs.Leaving.{AreCachesSame, IsRoomMadeBeside};
@@ -62,7 +62,7 @@ pub fn what_calls_leave_of_memtables()
     ensures refused { (S : ℕ) (old new : Unstored S) → IsPutRefused old new → memtable_bytes new.chains ≤ memtable_bytes old.chains }
     ensures taken { (id pin phase : ℕ) (old new : Memory) → IsSnapshotTaken old new id pin phase → memtable_bytes new ≡ memtable_bytes old }
     ensures taken_of { (key : List ℕ) (entries : List (List ℕ × ℕ)) (old new : Memory) (s : Snap) → IsTakenOf key entries old new s → memtable_bytes new ≡ memtable_bytes old }
-    ensures back { (id pin : ℕ) (m : Memory) → memtable_bytes (with_chains (on_chain id (without_snapshot pin) m.chains) m) ≡ memtable_bytes m }
+    ensures back { (s : Snap) (m : Memory) → memtable_bytes (taken_back s m) ≡ memtable_bytes m }
     ensures released { (s : Snap) (old new : Memory) → HasPin old s.chain s.pin → IsReleased s old new → memtable_bytes new ≤ memtable_bytes old }
     ensures let_go { (S : ℕ) (schema : SchemaValue) (u : Unstored S) (new : Memory) (writes later : List Write) → DoAscend u.sealed → HaveWrites schema u writes later → AreLetGo (map (λ e. e.1) u.sealed) u.chains new → memtable_bytes new ≤ memtable_bytes u.chains }
     ensures entered { (S : ℕ) (key : List ℕ) (pt : Option Tomb) (statics : Row) (phase : ℕ) (entries : List (List ℕ × ℕ)) (old new : Memory) (s : Snap) → IsEntered S key pt statics phase entries old new s → memtable_bytes new ≤ memtable_bytes old }
@@ -96,7 +96,7 @@ pub fn each_chain_of_the_cache_has_one_version()
     ensures beside { (old new : Memory) → AreCachesSame old new → HaveOneVersion old → HaveOneVersion new }
     ensures made_beside { (S : ℕ) (old new : Memory) → IsRoomMadeBeside S old new → HaveOneVersion old → HaveOneVersion new }
     ensures taken { (id pin phase : ℕ) (old new : Memory) → IsSnapshotTaken old new id pin phase → HaveOneVersion old → HaveOneVersion new }
-    ensures back { (id pin : ℕ) (m : Memory) → HaveOneVersion m → HaveOneVersion (with_chains (on_chain id (without_snapshot pin) m.chains) m) }
+    ensures back { (s : Snap) (m : Memory) → HaveOneVersion m → HaveOneVersion (taken_back s m) }
     ensures entered { (S : ℕ) (key : List ℕ) (pt : Option Tomb) (statics : Row) (phase : ℕ) (entries : List (List ℕ × ℕ)) (old new : Memory) (s : Snap) → IsEntered S key pt statics phase entries old new s → HaveOneVersion old → HaveOneVersion new }
     ensures kept_out { (S : ℕ) (old new : Memory) → IsKeptOut S old new → HaveOneVersion old → HaveOneVersion new }
     ensures filled { (S id pin : ℕ) (old new : Memory) → AreFillsDone S id pin old new → HaveOneVersion old → HaveOneVersion new }
@@ -139,8 +139,8 @@ pub fn chains_of_the_cache_stay_in_use()
     ensures detached { (id : ℕ) (old new : Memory) → ((k : KeptChain) → chain_at old id ≡ Some k → k.chain.updating ≡ false) → IsDetached id old new → AreInUse old → AreInUse new }
     ensures invalidated { (ids : List ℕ) (phase : ℕ) (old new : Memory) → ((id : ℕ) (k : KeptChain) → IsNumberIn ids id → chain_at old id ≡ Some k → k.chain.updating ≡ false) → IsInvalidated ids phase old new → AreInUse old → AreInUse new }
     ensures gone { (id : ℕ) (old new : Memory) → IsChainDropped id old.recency old new → AreInUse old → AreInUse new }
-    ensures swept { (id pin : ℕ) (old new : Memory) (k : KeptChain) → chain_at (with_chains (on_chain id (without_snapshot pin) old.chains) old) id ≡ Some k → (IsIdle (with_chains (on_chain id (without_snapshot pin) old.chains) old) id k.chain → IsChainDropped id old.recency (with_chains (on_chain id (without_snapshot pin) old.chains) old) new) →
-        ((IsIdle (with_chains (on_chain id (without_snapshot pin) old.chains) old) id k.chain → ⊥) → new ≡ with_chains (on_chain id (without_snapshot pin) old.chains) old) → AreInUse old → AreInUse new }
+    ensures swept { (s : Snap) (old new : Memory) (k : KeptChain) → chain_at (taken_back s old) s.chain ≡ Some k → (IsIdle (taken_back s old) s.chain k.chain → IsChainDropped s.chain old.recency (taken_back s old) new) →
+        ((IsIdle (taken_back s old) s.chain k.chain → ⊥) → new ≡ taken_back s old) → AreInUse old → AreInUse new }
 {
     calls_on_memtables_leave_the_cache();
     evictions_leave_the_use_of_a_chain();

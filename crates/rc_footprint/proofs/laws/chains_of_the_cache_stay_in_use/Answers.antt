@@ -33,5 +33,5 @@ returns c =
       detached = used-detached;
       invalidated = λ ids phase old new settled h. used-invalidated phases ids phase old new settled h;
       gone = used-dropped;
-      swept = λ id pin old new k there dropped kept used. used-swept id pin old new k there dropped kept used;
+      swept = λ s old new k there dropped kept used. used-swept s.chain s.pin old new k there dropped kept used;
     }

@@ -1,4 +1,4 @@
-use Rattle.rc_memory.specs.Memory.{on_chain, with_chains, without_snapshot}
+use Rattle.rc_unstored.specs.Readers.{taken_back}
 use Rattle.rc_footprint.proofs.Alike.{InvalidationLaws, alike-back, alike-before, alike-detached, alike-invalidated, alike-leaves, alike-taken}
 use Rattle.rc_footprint.proofs.Bare.{one-settled}
 use Rattle.rc_footprint.proofs.Cached.{entered-leaves, fills-leave, kept-out-leaves}
@@ -19,7 +19,7 @@ returns c =
       beside = λ old new same one id k e cached. one id k (same.none id k cached e) cached;
       made_beside = λ S old new b one id k e cached. leaves-one old b.mid (made-leaves uses S old b.mid b.room) one id k (b.same.none id k cached e) cached;
       taken = λ id pin phase old new t. leaves-one old new (alike-leaves old new (alike-taken id pin phase old new t));
-      back = λ id pin m. leaves-one m (with_chains (on_chain id (without_snapshot pin) m.chains) m) (alike-leaves m (with_chains (on_chain id (without_snapshot pin) m.chains) m) (alike-back id pin m));
+      back = λ s m. leaves-one m (taken_back s m) (alike-leaves m (taken_back s m) (alike-back s.chain s.pin m));
       entered = λ S key pt statics phase entries old new s e. leaves-one old new (entered-leaves uses S key pt statics phase entries old new s e);
       kept_out = λ S old new out. leaves-one old new (kept-out-leaves uses S old new out);
       filled = λ S id pin old new f. leaves-one old new (fills-leave uses S id pin old new f);

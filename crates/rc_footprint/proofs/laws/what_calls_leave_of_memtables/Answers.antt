@@ -1,6 +1,7 @@
 use Rattle.std.proofs.Common.{ap}
 use Rattle.rc_core.specs.declared.entries.ChainKind.TheVariants.{Memtable}
-use Rattle.rc_memory.specs.Memory.{Memory, on_chain, with_chains, without_snapshot}
+use Rattle.rc_memory.specs.Memory.{Memory}
+use Rattle.rc_unstored.specs.Readers.{taken_back}
 use Rattle.rc_footprint.proofs.Alike.{InvalidationLaws, alike-back, alike-before, alike-bytes, alike-detached, alike-invalidated, alike-taken}
 use Rattle.rc_footprint.proofs.Cached.{entered-leaves, fills-leave, kept-out-leaves}
 use Rattle.rc_footprint.proofs.Calls.{dropped-leaves, made-leaves, released-leaves}
@@ -21,7 +22,7 @@ returns c =
       refused = λ S old new p. leaves-less old.chains new.chains (leaves-then old.chains p.mid new.chains (made-leaves uses S old.chains p.mid p.room) (leaves-same p.mid new.chains (ap (λ (m : Memory). m.chains) p.slots.same)));
       taken = λ id pin phase old new t. alike-bytes old new (alike-taken id pin phase old new t) Memtable;
       taken_of = λ key entries old new s t. alike-bytes old new (alike-taken s.chain s.pin s.phase old new t.taken) Memtable;
-      back = λ id pin m. alike-bytes m (with_chains (on_chain id (without_snapshot pin) m.chains) m) (alike-back id pin m) Memtable;
+      back = λ s m. alike-bytes m (taken_back s m) (alike-back s.chain s.pin m) Memtable;
       released = λ s old new pin h. leaves-less old new (released-leaves s old new h pin);
       let_go = λ S schema u new writes later ascend h gone. leaves-less u.chains new (let-go-leaves schema u.sealed u.chains new writes ascend h.sealed gone);
       entered = λ S key pt statics phase entries old new s e. leaves-less old new (entered-leaves uses S key pt statics phase entries old new s e);
