@@ -4,6 +4,11 @@ use lsa_kinds::layout::{entry, header, version};
 use lsa_kinds::{Kind, fixed_size, link_get, link_put, links};
 use std::process::Abort;
 
+// The number is this one.
+fn is(rt: &impl Abort, number: u64, expected: u64) {
+    assert_eq!(rt; number, expected);
+}
+
 // The `width` bytes from `offset` on are `inside`, and the others are `outside`.
 fn holds(rt: &impl Abort, bytes: &[u8], offset: usize, width: usize, inside: u8, outside: u8) {
     for (index, byte) in bytes.iter().enumerate() {
@@ -20,7 +25,7 @@ macro_rules! written {
     ($rt:expr; $module:ident, $field:ident, $offset:literal, $width:literal, $ones:literal) => {
         let mut bytes = [0u8; 80];
         $module::$field::put(&mut bytes, $ones);
-        assert_eq!(&$rt; $module::$field::get(&bytes), $ones);
+        is(&$rt, $module::$field::get(&bytes), $ones);
         holds(&$rt, &bytes, $offset, $width, 255, 0);
         let mut bytes = [255u8; 80];
         $module::$field::put(&mut bytes, 0);
