@@ -1,9 +1,10 @@
 //! Eviction of one object: an entry, the gap before an end dummy, a static row.
 
+use crate::chain::{Chain, Place};
 use crate::history::History;
 use crate::step::{Effect, Step};
+use crate::universe::end_position;
 use rc_core::{Entry, Flag, PlainVersion, drop_entry, evict_under_update, mark_of_lost};
-use rc_history_parts::{Chain, Place, end_position};
 use std::alloc::{AllocError, Global};
 
 /// Some object of some version of a cache's chain.

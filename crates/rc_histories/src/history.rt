@@ -1,31 +1,35 @@
 //! A history: a chain, what the writes of each phase say, and one random lawful step after another.
 
+use crate::chain::{Chain, version_of};
+use crate::chance::Chance;
 use crate::cleaning::{clean, free};
 use crate::evicting::evict;
 use crate::filling::{fill_gap, fill_row, fill_statics};
+use crate::source::{Source, some_mutation};
 use crate::step::{Effect, Step};
+use crate::tally::Tally;
+use crate::universe::Universe;
 use crate::updating::{begin, relabel, unit};
 use crate::writing::write;
 use rc_core::{ChainKind, Flag, PlainVersion, release_pin};
-use rc_history_parts::{Chain, Chance, Source, Tally, Universe, some_mutation, version_of};
 use std::alloc::{AllocError, Global};
 
 /// A chain and what the writes say.
 #[derive(Drop)]
-pub struct History {
+pub(crate) struct History {
     /// The positions.
-    pub universe: Universe,
+    pub(crate) universe: Universe,
     /// What the writes of each phase say. The newest version of an attached chain stands for the last.
-    pub sources: Vec<Source>,
+    pub(crate) sources: Vec<Source>,
     /// The chain.
-    pub chain: Chain,
+    pub(crate) chain: Chain,
     /// What decides the steps.
-    pub chance: Chance,
+    pub(crate) chance: Chance,
 }
 
 impl History {
     /// No chain yet; of a cache some writes below it.
-    pub fn new(alloc: Global, kind: ChainKind, seed: u64) -> Result<Self, AllocError> {
+    pub(crate) fn new(alloc: Global, kind: ChainKind, seed: u64) -> Result<Self, AllocError> {
         let universe = Universe::new(alloc)?;
         let mut chance = Chance::new(seed);
         let sources = first_sources(alloc, kind, &universe, &mut chance)?;
@@ -38,7 +42,7 @@ impl History {
     }
 
     /// One step, if what chance takes is lawful now.
-    pub fn take_step(
+    pub(crate) fn take_step(
         &mut self,
         alloc: Global,
         tally: &mut Tally,

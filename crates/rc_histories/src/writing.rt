@@ -1,14 +1,13 @@
 //! Writes to a memtable's chain, each of one thing: they go into the newest version, or into a new one where a snapshot pins that.
 
+use crate::chain::{Chain, put_entries, version_of};
 use crate::filling::join_statics;
 use crate::history::{History, push_again};
+use crate::source::{Source, some_bounds, some_cells, some_row, some_tomb};
 use crate::step::{Effect, Step};
+use crate::universe::{KEYS, position};
 use rc_cell::Row;
 use rc_core::{Flag, PlainVersion};
-use rc_history_parts::{
-    Chain, KEYS, Source, position, put_entries, some_bounds, some_cells, some_row, some_tomb,
-    version_of,
-};
 use rc_mutation::greater_tomb;
 use rc_position::{Pos, Weight};
 use rc_units::{join_row, raise_entries};

@@ -5,20 +5,20 @@ use rand_pcg::Pcg32;
 
 /// A sequence of numbers that a seed determines.
 #[derive(Drop)]
-pub struct Chance {
+pub(crate) struct Chance {
     words: Pcg32,
 }
 
 impl Chance {
     /// The sequence of a seed.
-    pub fn new(seed: u64) -> Self {
+    pub(crate) fn new(seed: u64) -> Self {
         Chance {
             words: Pcg32::new(seed, 54),
         }
     }
 
     /// A number below a bound; 0 where the bound is 0.
-    pub fn below(&mut self, bound: u32) -> u32 {
+    pub(crate) fn below(&mut self, bound: u32) -> u32 {
         if bound == 0 {
             return 0;
         }
@@ -26,7 +26,7 @@ impl Chance {
     }
 
     /// The index of one of so many; 0 where there are none.
-    pub fn index(&mut self, count: usize) -> usize {
+    pub(crate) fn index(&mut self, count: usize) -> usize {
         if count == 0 {
             return 0;
         }
@@ -34,7 +34,7 @@ impl Chance {
     }
 
     /// Whether something happens that does so in this many of a hundred cases.
-    pub fn happens(&mut self, percent: u32) -> bool {
+    pub(crate) fn happens(&mut self, percent: u32) -> bool {
         self.below(100) < percent
     }
 }

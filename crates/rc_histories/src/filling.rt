@@ -1,10 +1,12 @@
 //! A snapshot fills the cache: a gap, a row, the static row.
 
+use crate::chain::{Chain, put_entries};
 use crate::history::History;
+use crate::source::{Said, Source};
 use crate::step::{Effect, Step};
+use crate::universe::{KEYS, position};
 use rc_cell::{Row, Tomb};
 use rc_core::{Entry, Flag, Mark, PlainVersion, filled_mark, may_populate};
-use rc_history_parts::{Chain, KEYS, Said, Source, position, put_entries};
 use rc_position::{Pos, Weight};
 use rc_units::{join_row, split_entries};
 use std::alloc::{AllocError, Global};

@@ -1,13 +1,14 @@
 //! The cleaner: a part of a version that nobody reads goes under the next newer one, or is lost where there is no room; and the objects of
 //! a chain that nobody finds or reads are freed one at a time.
 
+use crate::chain::{Chain, put_entries};
 use crate::evicting::is_left;
 use crate::history::History;
 use crate::step::{Effect, Step};
+use crate::tally::Tally;
 use rc_core::{
-    ChainKind, Flag, Mark, PlainVersion, drop_entry, flag_under, mark_of_lost, merge_head,
+    ChainKind, Entry, Flag, Mark, PlainVersion, drop_entry, flag_under, mark_of_lost, merge_head,
 };
-use rc_history_parts::{Chain, Tally, put_entries};
 use rc_units::{
     close_gap, may_merge, merge_end_dummy, merge_first_entry, next_to_clean, put_row_down,
 };
@@ -85,13 +86,20 @@ fn units_left(chain: &Chain) -> usize {
         if may_merge(number, versions, chain.pins.as_slice(), updating)
             && let Some(version) = chain.versions.get(number)
         {
-            left = left.saturating_add(version.entries.len());
-            if version.statics.is_some() {
-                left = left.saturating_add(1);
-            }
+            left = left.saturating_add(objects_of(version));
         }
     }
     left
+}
+
+// The entries of a version, and its static row.
+fn objects_of(version: &PlainVersion) -> usize {
+    let entries = version.entries.len();
+    if version.statics.is_some() {
+        entries.saturating_add(1)
+    } else {
+        entries
+    }
 }
 
 // The pins of newer versions, once one is gone.
@@ -113,29 +121,26 @@ fn merge(
     older: &mut PlainVersion,
     newer: &mut PlainVersion,
 ) -> Result<Step, AllocError> {
-    let room = match kind {
-        ChainKind::Memtable => true,
-        ChainKind::Cache => room,
-    };
+    if !room && !is_memtable(kind) && lose_first(older) {
+        return Ok(Step::new("unit of the cleaner without room", Effect::Less));
+    }
     if older.statics.is_some() {
-        if !room {
-            older.statics = None;
-            older.static_flag = Flag::Unknown;
-            return Ok(Step::new("unit of the cleaner without room", Effect::Less));
-        }
         merge_statics(alloc, older, newer)?;
         return Ok(Step::carrying("unit of the cleaner: static row", Effect::Nothing));
     }
-    if older.entries.len() > 1 {
-        if !room {
-            drop_entry(&mut older.entries, 0);
-            return Ok(Step::new("unit of the cleaner without room", Effect::Less));
-        }
-        merge_entry(alloc, older, newer)?;
-    }
+    merge_entry(alloc, older, newer)?;
     if older.entries.len() > 1 {
         return Ok(Step::carrying("unit of the cleaner: entry", Effect::Nothing));
     }
+    merge_last(alloc, older, newer)
+}
+
+// The end dummy.
+fn merge_last(
+    alloc: Global,
+    older: &mut PlainVersion,
+    newer: &mut PlainVersion,
+) -> Result<Step, AllocError> {
     merge_rest(alloc, older, newer)?;
     Ok(Step {
         kind: "unit of the cleaner: version dropped",
@@ -143,6 +148,32 @@ fn merge(
         carries: true,
         dropped: true,
     })
+}
+
+fn is_memtable(kind: ChainKind) -> bool {
+    match kind {
+        ChainKind::Memtable => true,
+        ChainKind::Cache => false,
+    }
+}
+
+// The static row of a version is lost, or else its first entry; whether there is one but the end dummy.
+fn lose_first(version: &mut PlainVersion) -> bool {
+    if version.statics.is_some() {
+        version.statics = None;
+        version.static_flag = Flag::Unknown;
+        return true;
+    }
+    drop_first(&mut version.entries)
+}
+
+// The first entry is dropped, where it is not the end dummy; whether it is not.
+fn drop_first(entries: &mut Vec<Entry>) -> bool {
+    if entries.len() > 1 {
+        drop_entry(entries, 0);
+        return true;
+    }
+    false
 }
 
 fn merge_statics(
@@ -162,17 +193,24 @@ fn merge_entry(
     older: &mut PlainVersion,
     newer: &mut PlainVersion,
 ) -> Result<(), AllocError> {
-    if let [first, next, ..] = older.entries.as_slice() {
-        let made = merge_first_entry(alloc, first, next, newer.entries.as_slice());
-        put_entries(newer, made)?;
-    }
-    if older.entries.len() > 1 {
-        drop_entry(&mut older.entries, 0);
-    }
-    if let Some(next) = older.entries.first_mut() {
+    put_first(alloc, older.entries.as_slice(), newer)?;
+    if drop_first(&mut older.entries)
+        && let Some(next) = older.entries.first_mut()
+    {
         close_gap(next);
     }
     Ok(())
+}
+
+// What the first entry says goes into the newer version.
+fn put_first(alloc: Global, older: &[Entry], newer: &mut PlainVersion) -> Result<(), AllocError> {
+    match older {
+        [first, next, ..] => {
+            let made = merge_first_entry(alloc, first, next, newer.entries.as_slice());
+            put_entries(newer, made)
+        }
+        _ => Ok(()),
+    }
 }
 
 fn merge_rest(

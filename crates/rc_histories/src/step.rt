@@ -2,7 +2,7 @@
 
 /// What a step may do to what is seen.
 #[derive(Clone, Copy)]
-pub enum Effect {
+pub(crate) enum Effect {
     /// Nothing changes in any version.
     Nothing,
     /// What is known was known before, and is the same.
@@ -19,15 +19,15 @@ pub enum Effect {
 
 /// A step that was taken.
 #[derive(Clone, Copy)]
-pub struct Step {
+pub(crate) struct Step {
     /// Its kind.
-    pub kind: &'static str,
+    pub(crate) kind: &'static str,
     /// What it may do to what is seen.
-    pub effect: Effect,
+    pub(crate) effect: Effect,
     /// Whether what is carried before it is carried behind it.
-    pub carries: bool,
+    pub(crate) carries: bool,
     /// Whether a version was dropped.
-    pub dropped: bool,
+    pub(crate) dropped: bool,
 }
 
 impl Step {

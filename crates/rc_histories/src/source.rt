@@ -10,29 +10,29 @@ use std::cmp::Ordering;
 
 /// What writes say of one position.
 #[derive(Drop)]
-pub struct Said {
+pub(crate) struct Said {
     /// Where.
-    pub position: Pos,
+    pub(crate) position: Pos,
     /// The rows as one.
-    pub row: Row,
+    pub(crate) row: Row,
     /// The greatest range tombstone.
-    pub tomb: Option<Tomb>,
+    pub(crate) tomb: Option<Tomb>,
 }
 
 /// What writes say of a partition.
 #[derive(Drop)]
-pub struct Source {
+pub(crate) struct Source {
     /// The greatest partition tombstone.
-    pub pt: Option<Tomb>,
+    pub(crate) pt: Option<Tomb>,
     /// The static rows as one.
-    pub statics: Row,
+    pub(crate) statics: Row,
     /// At each position of the universe, in order.
-    pub places: Vec<Said>,
+    pub(crate) places: Vec<Said>,
 }
 
 impl Source {
     /// Of no writes.
-    pub fn empty(alloc: Global, universe: &Universe) -> Result<Self, AllocError> {
+    pub(crate) fn empty(alloc: Global, universe: &Universe) -> Result<Self, AllocError> {
         let places = empty_places(alloc, universe)?;
         Ok(Source {
             pt: None,
@@ -42,7 +42,7 @@ impl Source {
     }
 
     /// An equal table.
-    pub fn copy(&self, alloc: Global) -> Result<Self, AllocError> {
+    pub(crate) fn copy(&self, alloc: Global) -> Result<Self, AllocError> {
         let statics = self.statics.copy(alloc)?;
         Ok(Source {
             pt: self.pt,
@@ -52,7 +52,7 @@ impl Source {
     }
 
     /// One more row written.
-    pub fn add_row(&mut self, alloc: Global, at: &Pos, row: &Row) -> Result<(), AllocError> {
+    pub(crate) fn add_row(&mut self, alloc: Global, at: &Pos, row: &Row) -> Result<(), AllocError> {
         for said in self.places.iter_mut() {
             if said.position == *at {
                 said.row.join(alloc, row)?;
@@ -71,7 +71,7 @@ impl Source {
     }
 
     /// One more range tombstone written, from one position on and before another.
-    pub fn add_range(&mut self, from: &Pos, to: &Pos, tomb: Tomb) {
+    pub(crate) fn add_range(&mut self, from: &Pos, to: &Pos, tomb: Tomb) {
         for said in self.places.iter_mut() {
             if *from <= said.position && said.position < *to {
                 said.tomb = greater_tomb(said.tomb, Some(tomb));
@@ -80,20 +80,28 @@ impl Source {
     }
 
     /// Another mutation written.
-    pub fn add(&mut self, alloc: Global, change: &Mutation) -> Result<(), AllocError> {
+    pub(crate) fn add(&mut self, alloc: Global, change: &Mutation) -> Result<(), AllocError> {
         self.pt = greater_tomb(self.pt, change.pt);
+        self.add_ranges(change);
         self.statics.join(alloc, change.statics.as_row())?;
+        self.add_rows(alloc, change)
+    }
+
+    fn add_rows(&mut self, alloc: Global, change: &Mutation) -> Result<(), AllocError> {
         for (key, row) in change.rows.as_slice() {
             self.add_row_of(alloc, key, row)?;
-        }
-        for piece in change.ranges.as_slice() {
-            self.add_range(&piece.from, &piece.to, piece.tomb);
         }
         Ok(())
     }
 
+    fn add_ranges(&mut self, change: &Mutation) {
+        for piece in change.ranges.as_slice() {
+            self.add_range(&piece.from, &piece.to, piece.tomb);
+        }
+    }
+
     /// What is said at a position of the universe.
-    pub fn at(&self, x: &Pos) -> Option<&Said> {
+    pub(crate) fn at(&self, x: &Pos) -> Option<&Said> {
         for said in &self.places {
             if said.position == *x {
                 return Some(said);
@@ -134,14 +142,14 @@ fn copy_places(alloc: Global, said: &[Said]) -> Result<Vec<Said>, AllocError> {
 }
 
 /// Whether two rows are one.
-pub fn is_same_row(row: &Row, other: &Row) -> bool {
+pub(crate) fn is_same_row(row: &Row, other: &Row) -> bool {
     row.marker == other.marker
         && row.tomb == other.tomb
         && row.cells.as_slice() == other.cells.as_slice()
 }
 
 /// A tombstone of some timestamp.
-pub fn some_tomb(chance: &mut Chance) -> Tomb {
+pub(crate) fn some_tomb(chance: &mut Chance) -> Tomb {
     Tomb {
         ts: 1 + i64::from(chance.below(5)),
         dt: chance.below(2),
@@ -149,14 +157,14 @@ pub fn some_tomb(chance: &mut Chance) -> Tomb {
 }
 
 /// One cell, which deletes a column.
-pub fn some_cells(alloc: Global, chance: &mut Chance) -> Result<Cells, AllocError> {
+pub(crate) fn some_cells(alloc: Global, chance: &mut Chance) -> Result<Cells, AllocError> {
     let column = if chance.happens(50) { 0 } else { 1 };
     let ts = 1 + i64::from(chance.below(5));
     Cells::from_slice(alloc, &[(column, Cell::Dead { ts, dt: 0 })])
 }
 
 /// A row of which something is written: a marker, a tombstone, or a cell.
-pub fn some_row(alloc: Global, chance: &mut Chance) -> Result<Row, AllocError> {
+pub(crate) fn some_row(alloc: Global, chance: &mut Chance) -> Result<Row, AllocError> {
     let marker = 1 + i64::from(chance.below(5));
     let mut row = Row::empty(alloc);
     match chance.below(4) {
@@ -168,7 +176,10 @@ pub fn some_row(alloc: Global, chance: &mut Chance) -> Result<Row, AllocError> {
 }
 
 /// Two bounds of the universe, the lesser first; none where chance takes one twice.
-pub fn some_bounds<'a>(chance: &mut Chance, bounds: &'a [Pos]) -> Option<(&'a Pos, &'a Pos)> {
+pub(crate) fn some_bounds<'a>(
+    chance: &mut Chance,
+    bounds: &'a [Pos],
+) -> Option<(&'a Pos, &'a Pos)> {
     let first = bounds.get(chance.index(bounds.len()))?;
     let second = bounds.get(chance.index(bounds.len()))?;
     match first.cmp(second) {
@@ -179,7 +190,7 @@ pub fn some_bounds<'a>(chance: &mut Chance, bounds: &'a [Pos]) -> Option<(&'a Po
 }
 
 /// What an update writes: at the head, of the static row, rows and range tombstones, each or none.
-pub fn some_mutation(
+pub(crate) fn some_mutation(
     alloc: Global,
     universe: &Universe,
     chance: &mut Chance,
@@ -213,11 +224,20 @@ fn write_head(alloc: Global, change: &mut Mutation, chance: &mut Chance) -> Resu
 fn write_rows(alloc: Global, change: &mut Mutation, chance: &mut Chance) -> Result<(), AllocError> {
     for number in KEYS {
         if chance.happens(40) {
-            let at = position(alloc, number, Weight::At)?;
-            add_row(alloc, change, &at, chance)?;
+            write_row(alloc, change, *number, chance)?;
         }
     }
     Ok(())
+}
+
+fn write_row(
+    alloc: Global,
+    change: &mut Mutation,
+    number: i64,
+    chance: &mut Chance,
+) -> Result<(), AllocError> {
+    let at = position(alloc, number, Weight::At)?;
+    add_row(alloc, change, &at, chance)
 }
 
 fn write_ranges(

@@ -1,14 +1,14 @@
 //! An update of the newest version: unit by unit, or given up where there is no room.
 
+use crate::chain::{Chain, Place, Update, put_entries, version_of};
 use crate::filling::join_statics;
 use crate::history::{History, push_again};
+use crate::source::{Source, some_mutation};
 use crate::step::{Effect, Step};
+use crate::tally::Tally;
+use crate::universe::{behind_key, end_position, start_position};
 use rc_cell::Tomb;
 use rc_core::{Entry, Flag, PlainVersion, is_at_place};
-use rc_history_parts::{
-    Chain, Place, Source, Tally, Update, behind_key, end_position, put_entries, some_mutation,
-    start_position, version_of,
-};
 use rc_mutation::{Frag, FragList, Mutation, greater_tomb};
 use rc_position::{Pos, Weight};
 use rc_units::{copy_entries, force_behind, lose_rest, put_fragment, split_entries};

@@ -3,7 +3,7 @@
 use std::alloc::{AllocError, Global};
 
 /// The kinds of steps.
-const KINDS: [&str; 28] = [
+const KINDS: &[&str] = &[
     "open",
     "snapshot",
     "release",
@@ -36,21 +36,21 @@ const KINDS: [&str; 28] = [
 
 /// How often each kind of step was taken, how many checks were made, and the first that failed.
 #[derive(Drop)]
-pub struct Tally {
+pub(crate) struct Tally {
     /// A number for each kind.
-    pub steps: Vec<(&'static str, u64)>,
+    pub(crate) steps: Vec<(&'static str, u64)>,
     /// The checks.
-    pub checks: u64,
+    pub(crate) checks: u64,
     /// What did not hold, first.
-    pub broken: Option<&'static str>,
+    pub(crate) broken: Option<&'static str>,
 }
 
 impl Tally {
     /// Nothing yet.
-    pub fn new(alloc: Global) -> Result<Self, AllocError> {
+    pub(crate) fn new(alloc: Global) -> Result<Self, AllocError> {
         let mut steps = Vec::new(alloc);
         for kind in KINDS {
-            steps.push((kind, 0))?;
+            steps.push((*kind, 0))?;
         }
         Ok(Tally {
             steps,
@@ -60,7 +60,7 @@ impl Tally {
     }
 
     /// One more step of a kind.
-    pub fn count(&mut self, kind: &str) {
+    pub(crate) fn count(&mut self, kind: &str) {
         for line in self.steps.iter_mut() {
             if line.0 == kind {
                 line.1 = line.1.saturating_add(1);
@@ -69,7 +69,7 @@ impl Tally {
     }
 
     /// All steps.
-    pub fn total(&self) -> u64 {
+    pub(crate) fn total(&self) -> u64 {
         let mut total: u64 = 0;
         for line in &self.steps {
             total = total.saturating_add(line.1);
@@ -78,7 +78,7 @@ impl Tally {
     }
 
     /// One more check.
-    pub fn expect(&mut self, holds: bool, what: &'static str) {
+    pub(crate) fn expect(&mut self, holds: bool, what: &'static str) {
         self.checks = self.checks.saturating_add(1);
         if !holds && self.broken.is_none() {
             self.broken = Some(what);

@@ -9,7 +9,7 @@ use std::alloc::{AllocError, Global};
 
 /// The place of an update: that of its next fragment.
 #[derive(Drop)]
-pub enum Place {
+pub(crate) enum Place {
     /// The head.
     Head,
     /// The static row.
@@ -36,7 +36,7 @@ impl Place {
     }
 
     /// Whether the head stands before the place.
-    pub fn is_past_head(&self) -> bool {
+    pub(crate) fn is_past_head(&self) -> bool {
         match self {
             Place::Head => false,
             Place::Static | Place::At(_) | Place::End => true,
@@ -44,7 +44,7 @@ impl Place {
     }
 
     /// Whether the static row stands before the place.
-    pub fn is_past_statics(&self) -> bool {
+    pub(crate) fn is_past_statics(&self) -> bool {
         match self {
             Place::Head | Place::Static => false,
             Place::At(_) | Place::End => true,
@@ -52,7 +52,7 @@ impl Place {
     }
 
     /// Whether a position stands before the place.
-    pub fn is_past(&self, x: &Pos) -> bool {
+    pub(crate) fn is_past(&self, x: &Pos) -> bool {
         match self {
             Place::Head | Place::Static => false,
             Place::At(place) => *x < *place,
@@ -63,18 +63,18 @@ impl Place {
 
 /// An update that stands in the newest version.
 #[derive(Drop)]
-pub struct Update {
+pub(crate) struct Update {
     /// The fragments of what it writes.
-    pub fragments: FragList,
+    pub(crate) fragments: FragList,
     /// The number of the next one.
-    pub next: usize,
+    pub(crate) next: usize,
     /// The range tombstone in force before the next one, as the fragments have it.
-    pub force: Option<Tomb>,
+    pub(crate) force: Option<Tomb>,
 }
 
 impl Update {
     /// The place of the fragment of a number: the end behind the last fragment.
-    pub fn place_of(&self, alloc: Global, number: usize) -> Result<Place, AllocError> {
+    pub(crate) fn place_of(&self, alloc: Global, number: usize) -> Result<Place, AllocError> {
         match self.fragments.as_slice().get(number) {
             Some(fragment) => Place::of(alloc, fragment),
             None => Ok(Place::End),
@@ -82,29 +82,29 @@ impl Update {
     }
 
     /// The update's place.
-    pub fn place(&self, alloc: Global) -> Result<Place, AllocError> {
+    pub(crate) fn place(&self, alloc: Global) -> Result<Place, AllocError> {
         self.place_of(alloc, self.next)
     }
 }
 
 /// The versions of a partition over one another; none where there is no chain.
 #[derive(Drop)]
-pub struct Chain {
+pub(crate) struct Chain {
     /// What stands below the oldest version.
-    pub kind: ChainKind,
+    pub(crate) kind: ChainKind,
     /// The versions, the oldest first.
-    pub versions: Vec<PlainVersion>,
+    pub(crate) versions: Vec<PlainVersion>,
     /// Whether the chain is found by its key.
-    pub attached: bool,
+    pub(crate) attached: bool,
     /// At the number of a snapshot that of the version which it pins; none at a number that is free.
-    pub pins: Vec<Option<usize>>,
+    pub(crate) pins: Vec<Option<usize>>,
     /// The update that stands in the newest version.
-    pub update: Option<Update>,
+    pub(crate) update: Option<Update>,
 }
 
 impl Chain {
     /// No chain.
-    pub fn none(alloc: Global, kind: ChainKind) -> Self {
+    pub(crate) fn none(alloc: Global, kind: ChainKind) -> Self {
         Chain {
             kind,
             versions: Vec::new(alloc),
@@ -115,27 +115,22 @@ impl Chain {
     }
 
     /// Whether an update stands in it.
-    pub fn is_updating(&self) -> bool {
+    pub(crate) fn is_updating(&self) -> bool {
         self.update.is_some()
     }
 
     /// Whether a version is the newest.
-    pub fn is_newest(&self, number: usize) -> bool {
+    pub(crate) fn is_newest(&self, number: usize) -> bool {
         number < self.versions.len() && number == self.versions.len() - 1
     }
 
     /// Whether a snapshot pins a version.
-    pub fn is_pinned(&self, number: usize) -> bool {
-        for pin in &self.pins {
-            if *pin == Some(number) {
-                return true;
-            }
-        }
-        false
+    pub(crate) fn is_pinned(&self, number: usize) -> bool {
+        self.pins.contains(&Some(number))
     }
 
     /// Whether no snapshot is left.
-    pub fn is_unpinned(&self) -> bool {
+    pub(crate) fn is_unpinned(&self) -> bool {
         for pin in &self.pins {
             if pin.is_some() {
                 return false;
@@ -145,7 +140,7 @@ impl Chain {
     }
 
     /// The number of the version that a snapshot pins which is taken now: the newest, or the one below it under update; none where there is none.
-    pub fn snapshot_version(&self) -> Option<usize> {
+    pub(crate) fn snapshot_version(&self) -> Option<usize> {
         if self.is_updating() {
             self.versions.len().checked_sub(2)
         } else {
@@ -154,7 +149,7 @@ impl Chain {
     }
 
     /// Whether somebody reads a version or will: it is pinned, the newest of an attached chain, or the one below the newest under update.
-    pub fn is_needed(&self, number: usize) -> bool {
+    pub(crate) fn is_needed(&self, number: usize) -> bool {
         if self.is_pinned(number) || self.attached && self.is_newest(number) {
             return true;
         }
@@ -162,7 +157,7 @@ impl Chain {
     }
 
     /// The place of the update that stands in it; none where there is none.
-    pub fn place(&self, alloc: Global) -> Result<Option<Place>, AllocError> {
+    pub(crate) fn place(&self, alloc: Global) -> Result<Option<Place>, AllocError> {
         match &self.update {
             Some(update) => Ok(Some(update.place(alloc)?)),
             None => Ok(None),
@@ -170,7 +165,7 @@ impl Chain {
     }
 
     /// The update's place, of the newest version under update; none of every other.
-    pub fn reach(&self, alloc: Global, number: usize) -> Result<Option<Place>, AllocError> {
+    pub(crate) fn reach(&self, alloc: Global, number: usize) -> Result<Option<Place>, AllocError> {
         if self.is_newest(number) {
             return self.place(alloc);
         }
@@ -179,7 +174,7 @@ impl Chain {
 }
 
 /// The entries of a version are these from now on; without memory it stays.
-pub fn put_entries(
+pub(crate) fn put_entries(
     version: &mut PlainVersion,
     made: Result<Vec<Entry>, AllocError>,
 ) -> Result<(), AllocError> {
@@ -188,7 +183,11 @@ pub fn put_entries(
 }
 
 /// A version of its end dummy alone, whose flags are all this one.
-pub fn version_of(alloc: Global, flag: Flag, phase: usize) -> Result<PlainVersion, AllocError> {
+pub(crate) fn version_of(
+    alloc: Global,
+    flag: Flag,
+    phase: usize,
+) -> Result<PlainVersion, AllocError> {
     let mark = Mark { flag, tomb: None };
     let end = Entry {
         position: end_position(alloc),
@@ -206,7 +205,7 @@ pub fn version_of(alloc: Global, flag: Flag, phase: usize) -> Result<PlainVersio
 }
 
 /// The versions up to the one of a number.
-pub fn upto(versions: &[PlainVersion], number: usize) -> &[PlainVersion] {
+pub(crate) fn upto(versions: &[PlainVersion], number: usize) -> &[PlainVersion] {
     if number < versions.len() {
         &versions[..number + 1]
     } else {
@@ -215,7 +214,7 @@ pub fn upto(versions: &[PlainVersion], number: usize) -> &[PlainVersion] {
 }
 
 /// The version of a number alone.
-pub fn alone(versions: &[PlainVersion], number: usize) -> &[PlainVersion] {
+pub(crate) fn alone(versions: &[PlainVersion], number: usize) -> &[PlainVersion] {
     if number < versions.len() {
         &versions[number..number + 1]
     } else {
