@@ -1,0 +1,28 @@
+//! Keys, rows and positions of the tests.
+ghost use Rattle.std.specs.Prelude.{◌≡◌, []};
+
+use rc_cell::Row;
+use rc_position::{Comp, Key, Pos, Weight};
+use std::alloc::{AllocError, Global};
+
+/// A position of no components.
+pub fn bare(alloc: Global, weight: Weight) -> Pos
+    ensures { result ≡ record { prefix = []; weight = weight } }
+{
+    Pos {
+        prefix: Key::empty(alloc),
+        weight,
+    }
+}
+
+/// A key of one number.
+pub fn key_at(alloc: Global, number: i64) -> Result<Key, AllocError> {
+    Key::from_slice(alloc, &[Comp::Int(number)])
+}
+
+/// A row with the marker 1, and nothing else.
+pub fn inserted(alloc: Global) -> Row {
+    let mut row = Row::empty(alloc);
+    row.marker = Some(1);
+    row
+}
