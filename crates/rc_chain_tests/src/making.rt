@@ -39,18 +39,23 @@ fn comes_of_it(chains: &mut Chains<4096>, answer: Room) -> bool {
 }
 
 // Whether room is at hand beside one chain of a kind, and this comes of a wish for it where no chain fits any more.
-fn gives(alloc: Global, kind: ChainKind, answer: Room) -> Result<bool, AllocError> {
+fn gives(chains: &mut Chains<4096>, kind: ChainKind, answer: Room) -> Result<bool, AllocError> {
+    fill(chains, kind, 1)?;
+    let at_hand = is_at_hand(chains);
+    fill(chains, kind, 100)?;
+    Ok(at_hand && comes_of_it(chains, answer))
+}
+
+// The same in a new region.
+fn gives_anew(alloc: Global, kind: ChainKind, answer: Room) -> Result<bool, AllocError> {
     let mut chains = Chains::<4096>::open(alloc, 4)?;
-    fill(&mut chains, kind, 1)?;
-    let at_hand = is_at_hand(&mut chains);
-    fill(&mut chains, kind, 100)?;
-    Ok(at_hand && comes_of_it(&mut chains, answer))
+    gives(&mut chains, kind, answer)
 }
 
 // Room is at hand at first, and nothing is evicted for it. Once no chain fits any more, caches give it, and memtables do not.
 #[test]
 fn room_by_evictions(rt: HostRuntime) -> Result<(), Fail> {
-    assert!(rt; gives(rt.alloc(), ChainKind::Cache, Room::Room)?);
-    assert!(rt; gives(rt.alloc(), ChainKind::Memtable, Room::NoRoom)?);
+    assert!(rt; gives_anew(rt.alloc(), ChainKind::Cache, Room::Room)?);
+    assert!(rt; gives_anew(rt.alloc(), ChainKind::Memtable, Room::NoRoom)?);
     Ok(())
 }

@@ -87,18 +87,29 @@ fn has_one_row(
     }
 }
 
+// Whether one row that is written is there, in three objects.
+fn is_three_objects(
+    alloc: Global,
+    memtable: &mut Memtable,
+    chains: &mut Chains<4096>,
+) -> Result<bool, AllocError>
+    requires { (schema : SchemaValue) → HasWrites schema memtable.old chains.old [] }
+    ensures { OnOk result ((schema : SchemaValue) × (writes : Sequence Written) × HasWrites schema memtable.new chains.new writes) }
+{
+    let written = write_inserted(alloc, memtable, chains)?;
+    let three = !memtable.is_empty() && takes(chains.region(), 3, 256);
+    let one = has_one_row(alloc, memtable, chains)?;
+    Ok(written && three && one)
+}
+
 // A version with one row inserted, whose position and row have codes of 11 bytes each, is three objects in 256 bytes; let go, none is left.
 #[test]
 fn an_inserted_row_takes_three_objects(rt: HostRuntime) -> Result<(), Fail> {
     let mut chains = Chains::<4096>::open(rt.alloc(), 4)?;
     let mut memtable = Memtable::new(rt.alloc());
     assert!(rt; memtable.is_empty());
-    assert!(rt; write_inserted(rt.alloc(), &mut memtable, &mut chains)?);
-    assert!(rt; !memtable.is_empty());
-    assert!(rt; takes(chains.region(), 3, 256));
-    assert!(rt; has_one_row(rt.alloc(), &memtable, &mut chains)?);
+    assert!(rt; is_three_objects(rt.alloc(), &mut memtable, &mut chains)?);
     memtable.drop_all(&mut chains);
-    assert!(rt; memtable.is_empty());
-    assert!(rt; takes(chains.region(), 0, 0));
+    assert!(rt; memtable.is_empty() && takes(chains.region(), 0, 0));
     Ok(())
 }

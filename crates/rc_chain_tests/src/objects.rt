@@ -310,11 +310,11 @@ const JOINED: [u8; 25] = [
     1, 10, 0, 0, 0, 0, 0, 0, 0, 0, 1, 31, 1, 4, 0, 0, 0, 0, 0, 0, 0, 5, 0, 0, 0,
 ];
 
-// Whether a row entry has these marks and a row of this code.
-fn is_row(region: &Region<4096>, e: Ref, at: Mark, gap: Mark, code: &[u8]) -> bool
+// Whether a row entry has these flags, no tombstones and a row of this code.
+fn is_row(region: &Region<4096>, e: Ref, at: Flag, gap: Flag, code: &[u8]) -> bool
     requires { IsRowEntry region.now e }
 {
-    has_marks(region, e, at, gap) && code_in(region, e) == code
+    has_marks(region, e, plain(at), plain(gap)) && code_in(region, e) == code
 }
 
 // Whether entries are so that are made one from the other: at a key, with another row joined, with other marks, and with its own row joined once more. None where there is no room.
@@ -330,16 +330,15 @@ fn are_rows_made(
     requires cell { IsCode code_of IsCodedRow cell.now }
     requires size { sc.old.size ≡ 1000 }
 {
-    let (known, inherit) = (plain(Flag::Known), plain(Flag::Inherit));
     let e = row_made(region, key, row, sc)?;
-    let first = is_row(region, e, known, inherit, &INSERTED);
+    let first = is_row(region, e, Flag::Known, Flag::Inherit, &INSERTED);
     let e = row_joined(region, e, cell, sc)?;
-    let second = is_row(region, e, known, inherit, &JOINED);
-    let unknown = plain(Flag::Unknown);
+    let second = is_row(region, e, Flag::Known, Flag::Inherit, &JOINED);
     let e = row_like(region, e, sc)?;
-    let third = is_row(region, e, unknown, known, &JOINED);
+    let third = is_row(region, e, Flag::Unknown, Flag::Known, &JOINED);
     let e = row_joined_again(region, e, sc)?;
-    Some(first && second && third && is_row(region, e, unknown, known, &JOINED))
+    let fourth = is_row(region, e, Flag::Unknown, Flag::Known, &JOINED);
+    Some(first && second && third && fourth)
 }
 
 // The same with the cell as what is joined.

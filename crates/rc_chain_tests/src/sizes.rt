@@ -154,9 +154,21 @@ fn spare_with(region: &mut Region<4096>, count: u64) -> (usize, [usize; 3])
     }
 }
 
-// Whether the region is as after one move: one segment more is free.
-fn has_moved_one(region: &Region<4096>) -> bool {
-    region.moved() == 1 && region.free() == 2 && region.spare() == 6992
+// Whether 45 end dummies that are freed and 48 behind them leave this.
+fn is_filled(region: &mut Region<4096>) -> bool {
+    spare_with(region, 45) == (10664, [7168, 7080, 3496])
+        && region.free() == 1
+        && region.live() == 4224
+}
+
+// Whether one object is moved then, and no more.
+fn is_moved(region: &mut Region<4096>) -> bool {
+    compact_one(region)
+        && region.moved() == 1
+        && region.free() == 2
+        && region.spare() == 6992
+        && !compact_one(region)
+        && ensure(region, 3584) == Ensured::Ready
 }
 
 // 46 end dummies fill a segment of 4096 bytes. Of the first 46 only the last one stays, and it is moved.
@@ -164,11 +176,7 @@ fn has_moved_one(region: &Region<4096>) -> bool {
 fn room_by_one_compaction(rt: HostRuntime) -> Result<(), Fail> {
     let mut region = Region::<4096>::open(rt.alloc(), 4)?;
     assert!(rt; region.spare() == 10752 && region.free() == 3);
-    assert!(rt; spare_with(&mut region, 45) == (10664, [7168, 7080, 3496]));
-    assert!(rt; region.free() == 1 && region.live() == 4224);
-    assert!(rt; compact_one(&mut region));
-    assert!(rt; has_moved_one(&region));
-    assert!(rt; !compact_one(&mut region));
-    assert!(rt; ensure(&mut region, 3584) == Ensured::Ready);
+    assert!(rt; is_filled(&mut region));
+    assert!(rt; is_moved(&mut region));
     Ok(())
 }
