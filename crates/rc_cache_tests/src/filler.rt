@@ -12,7 +12,7 @@ ghost use Rattle.rc_stream.specs.Snapshot.{SayThere, Throughout};
 ghost use Rattle.rc_filler.specs.Stands.{StandsForWrites};
 ghost use Rattle.rc_cache_tests.specs.Tested.{AreHeadless, only_row};
 
-use crate::values::{bare, key_at, marked, nothing};
+use crate::values::{bare, inserted, key_at, nothing};
 use rc_cell::{Row, Tomb};
 use rc_chain::{Chains, Snap};
 use rc_core::Part;
@@ -193,7 +193,7 @@ fn is_read_as_row(
 // The same of a row with the marker 1 at the key 7.
 fn is_read_as_inserted(alloc: Global, chains: &mut Chains<16384>) -> Result<bool, AllocError> {
     let key = key_at(alloc, 7)?;
-    let row = marked(alloc, Some(1));
+    let row = inserted(alloc);
     is_read_as_row(alloc, chains, &key, &row, 1)
 }
 

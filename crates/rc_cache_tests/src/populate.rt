@@ -10,7 +10,7 @@ ghost use Rattle.rc_rowcode.specs.Spelling.{KeyFits, RowFits};
 ghost use Rattle.rc_version.specs.Versions.{statics_bytes};
 ghost use Rattle.rc_populate.specs.Filling.{given};
 
-use crate::values::{bare, marked};
+use crate::values::bare;
 use rc_cell::{Row, Tomb};
 use rc_chain::{ChainKind, Chains, ReadHead, Snap};
 use rc_core::Part;
@@ -20,6 +20,15 @@ use rc_position::{Pos, Weight};
 use rc_rowcode::row_in_range;
 use std::alloc::{AllocError, Global};
 use std::test::Fail;
+
+// A row with this marker, and nothing else.
+fn marked(alloc: Global, marker: Option<i64>) -> Row
+    ensures { result.cells ≡ [] }
+{
+    let mut row = Row::empty(alloc);
+    row.marker = marker;
+    row
+}
 
 // Whether a snapshot knows the head of its chain, with this partition tombstone and a static row with this marker.
 fn shows(

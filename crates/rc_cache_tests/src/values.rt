@@ -1,5 +1,5 @@
 //! Keys, rows, positions and writes of the tests.
-ghost use Rattle.std.specs.Prelude.{◌≡◌, ◌∷◌, [], IfOk, None};
+ghost use Rattle.std.specs.Prelude.{◌≡◌, ◌≢◌, ◌∷◌, [], IfOk, None};
 ghost use Rattle.rc_cell.specs.Winner.{empty_row};
 ghost use Rattle.rc_position.specs.declared.comps.Comp.TheVariants.{Int};
 
@@ -25,12 +25,13 @@ pub fn key_at(alloc: Global, number: i64) -> Result<Key, AllocError>
     Key::from_slice(alloc, &[Comp::Int(number)])
 }
 
-/// A row with this marker, and nothing else.
-pub fn marked(alloc: Global, marker: Option<i64>) -> Row
-    ensures { result.cells ≡ [] }
+/// A row with the marker 1, and nothing else.
+pub fn inserted(alloc: Global) -> Row
+    ensures cells { result.cells ≡ [] }
+    ensures written { result ≢ empty_row }
 {
     let mut row = Row::empty(alloc);
-    row.marker = marker;
+    row.marker = Some(1);
     row
 }
 
@@ -51,7 +52,7 @@ pub fn change_at(alloc: Global, number: i64) -> Result<Mutation, AllocError>
     ensures statics { IfOk result (λ change. change.statics ≡ empty_row) }
 {
     let key = key_at(alloc, number)?;
-    let rows = Rows::of_one(alloc, key, marked(alloc, Some(1)))?;
+    let rows = Rows::of_one(alloc, key, inserted(alloc))?;
     let mut change = Mutation::empty(alloc);
     change.rows = rows;
     Ok(change)

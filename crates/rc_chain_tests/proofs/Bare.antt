@@ -1,11 +1,14 @@
--- Positions of no components.
-use Rattle.std.proofs.Common.{◌≡◌, ◌≤◌, [], refl, sym, subst, arith}
+-- Positions of no components, and keys of one number.
+use Rattle.std.proofs.Common.{◌≡◌, ◌≤◌, zero, suc, List, [], ◌∷◌, refl, sym, subst, arith}
+use Rattle.std.specs.Prelude.{All, ℤ}
+use Rattle.rc_position.specs.declared.comps.Comp.{Comp}
+use Rattle.rc_position.specs.declared.comps.Comp.TheVariants.{Int}
 use Rattle.rc_position.specs.declared.positions.Pos.{Pos}
 use Rattle.rc_position.specs.declared.positions.Weight.{Weight}
 use Rattle.rc_position.specs.declared.positions.Weight.TheVariants.{After, At, Before}
 use Rattle.rc_position.specs.Position.{IsBefore, pos_cmp}
 use Rattle.rc_rowcode.specs.Objects.{dummy_size}
-use Rattle.rc_rowcode.specs.Spelling.{KeyFits}
+use Rattle.rc_rowcode.specs.Spelling.{CompFits, KeyFits}
 
 abbrev pub bare : Weight → Pos
 bare w = record { prefix = []; weight = w }
@@ -29,3 +32,10 @@ fits w x e = subst (λ (p : Pos). KeyFits p.prefix) (sym e) no_components
 
 pub takes : (w : Weight) (x : Pos) → x ≡ bare w → dummy_size x ≤ 88
 takes w x e = subst (λ (p : Pos). dummy_size p ≤ 88) (sym e) (omega arith)
+
+number-small : (number : ℤ) → All CompFits (Int number ∷ [])
+number-small number zero d lt = tt
+number-small number (suc k) d lt = absurd (omega (arith, lt))
+
+pub number-fits : (number : ℤ) (key : List Comp) → key ≡ Int number ∷ [] → KeyFits key
+number-fits number key e = subst KeyFits (sym e) (omega arith, number-small number)

@@ -31,12 +31,7 @@ fn opened(alloc: Global, region: &mut Region<4096>) -> Result<(List, Root), Allo
 }
 
 // Whether the head of a partition is known, with this partition tombstone and without a static row.
-fn is_head(
-    alloc: Global,
-    region: &Region<4096>,
-    root: Root,
-    tomb: Tomb,
-) -> Result<bool, AllocError>
+fn is_head(alloc: Global, region: &Region<4096>, root: Root, tomb: Tomb) -> Result<bool, AllocError>
     requires { (read : Sequence StandingVersion) × AreUpTo region.now root 0 read }
 {
     let top = head(alloc, region, root, 0, ChainKind::Cache)?;
@@ -44,12 +39,7 @@ fn is_head(
 }
 
 // Whether a position is known, without a row and without a range tombstone.
-fn is_bare(
-    alloc: Global,
-    region: &Region<4096>,
-    root: Root,
-    x: &Pos,
-) -> Result<bool, AllocError>
+fn is_bare(alloc: Global, region: &Region<4096>, root: Root, x: &Pos) -> Result<bool, AllocError>
     requires { (read : Sequence StandingVersion) × AreUpTo region.now root 0 read }
 {
     let here = at(alloc, region, root, 0, ChainKind::Cache, x)?;

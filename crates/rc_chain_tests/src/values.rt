@@ -1,5 +1,7 @@
 //! Keys, rows and positions of the tests.
-ghost use Rattle.std.specs.Prelude.{◌≡◌, []};
+ghost use Rattle.std.specs.Prelude.{◌≡◌, ◌≢◌, [], IfOk};
+ghost use Rattle.rc_cell.specs.Winner.{empty_row};
+ghost use Rattle.rc_rowcode.specs.Spelling.{KeyFits, RowFits};
 
 use rc_cell::Row;
 use rc_position::{Comp, Key, Pos, Weight};
@@ -16,12 +18,17 @@ pub fn bare(alloc: Global, weight: Weight) -> Pos
 }
 
 /// A key of one number.
-pub fn key_at(alloc: Global, number: i64) -> Result<Key, AllocError> {
+pub fn key_at(alloc: Global, number: i64) -> Result<Key, AllocError>
+    ensures { IfOk result (λ key. KeyFits key) }
+{
     Key::from_slice(alloc, &[Comp::Int(number)])
 }
 
 /// A row with the marker 1, and nothing else.
-pub fn inserted(alloc: Global) -> Row {
+pub fn inserted(alloc: Global) -> Row
+    ensures fits { RowFits result }
+    ensures written { result ≢ empty_row }
+{
     let mut row = Row::empty(alloc);
     row.marker = Some(1);
     row
