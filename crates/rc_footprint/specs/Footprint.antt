@@ -36,7 +36,7 @@ cache_bytes m = bytes_of Cache m
 abbrev pub IsLiveInChains : Memory → Type 0
 IsLiveInChains m = live_bytes m.region ≡ sum_by chain_bytes (present m.chains)
 
--- each chain of the cache has one version, as all have while what is written below is made known to the cache by letting partitions go
+-- each chain of the cache has one version, as long as no update begins
 abbrev pub HaveOneVersion : Memory → Type 0
 HaveOneVersion m = (id : ℕ) (k : KeptChain) → chain_at m id ≡ Some k → k.chain.kind ≡ Cache → length k.chain.versions ≡ 1
 
