@@ -5,6 +5,3 @@ pub mod laws;
 mod recency;
 
 pub use recency::List;
-
-#[cfg(test)]
-mod tests;

@@ -344,6 +344,3 @@ fn over<const S: usize>(store: Store<S>, roots: Slots) -> Region<S>
         compacted: 0,
     }
 }
-
-#[cfg(test)]
-mod tests;

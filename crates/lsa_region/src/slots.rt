@@ -1,5 +1,5 @@
 //! Root slots by number, of which some were dropped.
-ghost use Rattle.std.specs.Prelude.{◌≡◌, ◌^◌, ◌<◌, ◌≤◌, [], length, slice_index_or, slice_set, is_some, Option, Some, None, IfOk, OnErr};
+ghost use Rattle.std.specs.Prelude.{◌≡◌, ◌^◌, ◌<◌, ◌≤◌, [], length, slice_index_or, slice_set, Option, Some, None, IfOk, OnErr};
 ghost use Rattle.lsa_region.specs.declared.end.End.{End as Named};
 ghost use Rattle.lsa_region.specs.Ends.{root_of, slots_in, IsSlotMade};
 ghost use Rattle.lsa_region.specs.calls.Ends.{IsSlotDropped};
@@ -45,25 +45,6 @@ impl Slots {
         ensures { length self.now ≤ 2 ^ 32 }
     {
         let _ = &self.named;
-    }
-
-    /// Whether there is a slot of this number.
-    #[cfg(test)]
-    pub(crate) fn has(&self, number: usize) -> bool
-        ensures { result ≡ is_some (slice_index_or self.now number None) }
-    {
-        match self.named.get(number) {
-            Some(Some(_)) => true,
-            _ => false,
-        }
-    }
-
-    /// How many numbers of slots there are.
-    #[cfg(test)]
-    pub(crate) fn len(&self) -> usize
-        ensures { result ≡ length self.now }
-    {
-        self.named.len()
     }
 
     /// What a slot names that is there.

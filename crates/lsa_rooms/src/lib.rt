@@ -4,6 +4,3 @@
 mod room;
 
 pub use room::{add_version, drop_version, first_entry, insert, newest, replace, take};
-
-#[cfg(test)]
-mod tests;

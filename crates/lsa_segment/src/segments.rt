@@ -119,36 +119,3 @@ fn zeros(alloc: Global, count: u32) -> Result<Vec<usize>, AllocError>
     }
     Ok(used)
 }
-
-#[cfg(test)]
-mod tests {
-    use super::*;
-    use std::test::Fail;
-
-    // Two segments side by side: one filled to its last byte, read, changed in the middle, copied into the other one and emptied.
-    #[test]
-    fn filled_to_the_last_byte(rt: HostRuntime) -> Result<(), Fail> {
-        let mut segments = Segments::<64>::new(rt.alloc(), 2)?;
-        let bytes = [7u8; 40];
-        assert_eq!(rt; (segments.room(0), segments.room(1)), (64, 64));
-        assert_eq!(rt; segments.push(1, &[9]), 0);
-        assert_eq!(rt; segments.push(0, bytes.as_slice()), 0);
-        assert_eq!(rt; segments.push(0, &bytes[..24]), 40);
-        assert_eq!(rt; segments.room(0), 0);
-        segments.write(0, 62, &[1, 2]);
-        assert_eq!(rt; segments.lend(0, 61, 3), [7, 1, 2].as_slice());
-        assert_eq!(rt; segments.copy_into(0, 60, 4, 1), 1);
-        assert_eq!(rt; segments.lend(1, 0, 5), [9, 7, 7, 1, 2].as_slice());
-        segments.clear(0);
-        assert_eq!(rt; (segments.room(0), segments.room(1)), (64, 59));
-        assert_eq!(rt; segments.push(0, &[5]), 0);
-        assert_eq!(rt; segments.lend(0, 0, 1), [5].as_slice());
-        // Over the five bytes that were written before, and behind them.
-        segments.clear(1);
-        assert_eq!(rt; segments.push(1, &bytes[..8]), 0);
-        assert_eq!(rt; segments.lend(1, 0, 8), &bytes[..8]);
-        assert_eq!(rt; segments.push(1, &[3]), 8);
-        assert_eq!(rt; segments.lend(1, 7, 2), [7, 3].as_slice());
-        Ok(())
-    }
-}

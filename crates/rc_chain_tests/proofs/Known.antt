@@ -3,10 +3,8 @@ use Rattle.std.proofs.Common.{◌≡◌, ◌<◌, ◌⊎◌, ℕ, true, false, L
 use Rattle.std.specs.Prelude.{Contains, IfSome, IsSomeAnd}
 use Rattle.std.specs.Option.{option_map}
 use Rattle.rc_cell.specs.declared.writes.Tomb.{Tomb}
-use Rattle.rc_position.specs.declared.comps.Comp.{Comp}
 use Rattle.rc_position.specs.declared.positions.Pos.{Pos}
-use Rattle.rc_position.specs.declared.positions.Weight.TheVariants.{After, Before}
-use Rattle.rc_position.specs.Position.{IsBefore, pos_cmp}
+use Rattle.rc_position.specs.Position.{IsBefore}
 use Rattle.rc_core.specs.AtPlace.{HasEntryAt}
 use Rattle.rc_core.specs.Change.{dummy, mark, split, split_by}
 use Rattle.rc_core.specs.Continuity.{with_entries}
@@ -29,9 +27,6 @@ abbrev end_dummy : Entry
 end_dummy = dummy end_position (mark Unknown None)
 
 module _ (old new : Memory) (id phase : ℕ) (pt : Option Tomb) (list : List Member) (made : IsChainMade id Cache pt phase list old new) where
-  pub has-first : HasVersion new id 0
-  has-first = subst (λ (o : Option KeptChain). IsSomeAnd o (λ k. 0 < length k.chain.versions)) (sym (made-at old new id Cache pt phase list made)) (omega arith)
-
   pub keeps-first : (f : Version → Version) → KeepsLast id 0 f new
   keeps-first f = subst (λ (o : Option KeptChain). IfSome o (λ k. (v : Version) → IsVersionAt k.chain.versions 0 v → IsUnderUpdate k.chain 0 → (at : Option Pos) → IsLastInner v at → IsLastInner (f v) at ⊎ Contains new.recency (member id 0 at)))
       (sym (made-at old new id Cache pt phase list made)) (λ v number under at inner. absurd (let e : false ≡ true = under.0 in cc))
@@ -55,12 +50,3 @@ module _ (old new : Memory) (id phase : ℕ) (pt : Option Tomb) (list : List Mem
           let one : f (version_of Unknown pt phase) ≡ v = one-at k.chain.versions 0 (f (version_of Unknown pt phase)) v
           (subst (λ (q : KeptChain). IsVersionAt q.chain.versions 0 (f (version_of Unknown pt phase))) (same_some (on_shown (on_version_of 0 f) (chain_of_new Cache pt phase)) k (sym split-at ∙ there)) (record { older = []; newer = []; split = refl; number = refl })) number in
           subst (λ (w : Version). HasEntryAt from w.entries × HasEntryAt end w.entries) one stand
-
-start-before-end : IsBefore (record { prefix = []; weight = Before }) (record { prefix = []; weight = After })
-unfolding pos_cmp
-start-before-end = refl
-
--- the start of a partition is before its end
-pub first-before : (a b : List Comp) → a ≡ [] → b ≡ [] → IsBefore (record { prefix = a; weight = Before }) (record { prefix = b; weight = After })
-first-before a b p q = subst (λ (l : List Comp). IsBefore (record { prefix = l; weight = Before }) (record { prefix = b; weight = After })) (sym p)
-    (subst (λ (l : List Comp). IsBefore (record { prefix = []; weight = Before }) (record { prefix = l; weight = After })) (sym q) start-before-end)

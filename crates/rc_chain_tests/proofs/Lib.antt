@@ -1,2 +1,8 @@
+pub mod Alone
+pub mod Bare
+pub mod Covered
+pub mod Joined
 pub mod Known
+pub mod Opened
 pub mod Pins
+pub mod Rooms

@@ -7,55 +7,73 @@ ghost use Rattle.rc_position.specs.Position.{IsBefore};
 ghost use Rattle.rc_rowcode.specs.Objects.{dummy_size};
 ghost use Rattle.rc_rowcode.specs.Spelling.{KeyFits};
 
-use rc_chain::{ChainKind, Chains, ReadAt, ReadHead, Snap};
+use crate::objects::takes;
+use crate::values::bare;
+use rc_chain::{ChainKind, Chains, Snap};
 use rc_core::{Flag, Mark};
-use rc_position::{Key, Pos, Weight};
+use rc_cursor::laws::a_taken_snapshot_is_there;
+use rc_position::{Pos, Weight};
 use std::alloc::{AllocError, Global};
 use std::test::Fail;
 
-// What a snapshot sees at the head of its chain and at the end of the partition.
-fn both_seen(
+// Whether a snapshot knows the head of its chain.
+fn is_head_known(chains: &Chains<4096>, snap: &Snap) -> Result<bool, AllocError>
+    requires { HasPin chains.now snap.now.chain snap.now.pin }
+{
+    Ok(chains.head(snap)?.known)
+}
+
+// Whether it knows the end of the partition.
+fn is_end_known(alloc: Global, chains: &Chains<4096>, snap: &Snap) -> Result<bool, AllocError>
+    requires { HasPin chains.now snap.now.chain snap.now.pin }
+{
+    let end = bare(alloc, Weight::After);
+    Ok(chains.at(snap, &end)?.known)
+}
+
+// Whether it knows both, or neither.
+fn are_both(
     alloc: Global,
     chains: &Chains<4096>,
     snap: &Snap,
-) -> Result<(ReadHead, ReadAt), AllocError>
+    known: bool,
+) -> Result<bool, AllocError>
     requires { HasPin chains.now snap.now.chain snap.now.pin }
 {
-    let end = Pos {
-        prefix: Key::empty(alloc),
-        weight: Weight::After,
-    };
-    Ok((chains.head(snap)?, chains.at(snap, &end)?))
+    let head = is_head_known(chains, snap)?;
+    let end = is_end_known(alloc, chains, snap)?;
+    Ok(head == known && end == known)
 }
 
-// What a new chain of a kind shows to a snapshot at its head and at the end: whether these are known. The snapshot is given back.
-fn known_of_new(
+// Whether a snapshot of a new chain of a kind knows both, or neither. The snapshot is given back.
+fn are_both_of_new(
     alloc: Global,
     chains: &mut Chains<4096>,
     kind: ChainKind,
-) -> Result<(bool, bool), AllocError>
+    known: bool,
+) -> Result<bool, AllocError>
     requires { 152 ≤ spare_of 4096 chains.old.region.usages }
 {
+    a_taken_snapshot_is_there();
     let id = chains.new_chain(kind, 7, None)?;
     let snap = chains.snapshot(id)?;
-    let seen = both_seen(alloc, chains, &snap);
+    let seen = are_both(alloc, chains, &snap, known);
     chains.release(snap);
-    let (head, at) = seen?;
-    Ok((head.known, at.known))
+    seen
+}
+
+// Whether a new chain of a kind is known so, and is two objects in 152 bytes.
+fn is_new(alloc: Global, kind: ChainKind, known: bool) -> Result<bool, AllocError> {
+    let mut chains = Chains::<4096>::open(alloc, 4)?;
+    let seen = are_both_of_new(alloc, &mut chains, kind, known)?;
+    Ok(seen && takes(chains.region(), 2, 152))
 }
 
 // A cache chain knows nothing at first, and a memtable's everything. Each is one version of its end dummy alone: two objects in 152 bytes.
 #[test]
 fn new_chains(rt: HostRuntime) -> Result<(), Fail> {
-    for (kind, known) in [(ChainKind::Cache, false), (ChainKind::Memtable, true)] {
-        let mut chains = Chains::<4096>::open(rt.alloc(), 4)?;
-        let (head, at) = known_of_new(rt.alloc(), &mut chains, kind)?;
-        assert_eq!(rt; (head, at), (known, known));
-        assert_eq!(rt;
-            (chains.region().objects(), chains.region().live()),
-            (2, 152)
-        );
-    }
+    assert!(rt; is_new(rt.alloc(), ChainKind::Cache, false)?);
+    assert!(rt; is_new(rt.alloc(), ChainKind::Memtable, true)?);
     Ok(())
 }
 
@@ -82,19 +100,19 @@ fn marks_of_known(
     Ok(chains.marks(e))
 }
 
-// From the first position on a new chain is made known: at the entry there, and not over the gap before it.
+// Whether a new chain that is made known from the first position on is so at the entry there, and not over the gap before it.
+fn is_known_from_the_first(alloc: Global, chains: &mut Chains<4096>) -> Result<bool, AllocError>
+    requires { 240 ≤ spare_of 4096 chains.old.region.usages }
+{
+    let from = bare(alloc, Weight::Before);
+    let end = bare(alloc, Weight::After);
+    let (at, gap) = marks_of_known(chains, &from, &end)?;
+    Ok(is_known(at) && !is_known(gap))
+}
+
 #[test]
 fn known_stretches(rt: HostRuntime) -> Result<(), Fail> {
-    let from = Pos {
-        prefix: Key::empty(rt.alloc()),
-        weight: Weight::Before,
-    };
-    let end = Pos {
-        prefix: Key::empty(rt.alloc()),
-        weight: Weight::After,
-    };
     let mut chains = Chains::<4096>::open(rt.alloc(), 4)?;
-    let (at, gap) = marks_of_known(&mut chains, &from, &end)?;
-    assert_eq!(rt; (is_known(at), is_known(gap)), (true, false));
+    assert!(rt; is_known_from_the_first(rt.alloc(), &mut chains)?);
     Ok(())
 }

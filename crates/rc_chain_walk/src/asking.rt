@@ -46,14 +46,24 @@ pub(crate) fn ask_sums(chains: &Chains<SEGMENT>, plain: &PlainMemory, tally: &mu
     tally.expect(chains.region().live() == bytes, "how many bytes are live");
 }
 
+// Whether a chain has this number.
+fn has_number(plain: &[PlainChain], id: u64) -> bool {
+    for chain in plain {
+        if chain.id == id {
+            return true;
+        }
+    }
+    false
+}
+
 // Asks which chains there are.
 fn ask_numbers(chains: &Chains<SEGMENT>, plain: &[PlainChain], tally: &mut Tally) {
     let mut after = None;
     let mut found: usize = 0;
     for _ in 0..plain.len() {
         if let Some(id) = chains.next_chain(after) {
-            let there = plain.iter().any(|chain| chain.id == id);
-            tally.expect(there && chains.is_there(id), "a number of a chain");
+            let there = has_number(plain, id) && chains.is_there(id);
+            tally.expect(there, "a number of a chain");
             after = Some(id);
             found = found.saturating_add(1);
         }

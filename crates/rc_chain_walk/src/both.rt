@@ -17,6 +17,15 @@ use std::alloc::{AllocError, Global};
 use std::cmp::Ordering;
 use std::marker::Model;
 
+/// How much was moved.
+#[derive(Clone, Copy)]
+pub(crate) struct Moves {
+    /// The objects.
+    pub(crate) objects: u64,
+    /// The segments that they were moved out of.
+    pub(crate) segments: u64,
+}
+
 /// Up to how many snapshots are held.
 const MOST_SNAPSHOTS: usize = 6;
 
@@ -51,9 +60,13 @@ pub(crate) fn begin(alloc: Global) -> Result<Both, AllocError> {
 }
 
 impl Both {
-    /// The chains in the region.
-    pub(crate) fn chains(&self) -> &Chains<SEGMENT> {
-        &self.chains
+    /// How much was moved.
+    pub(crate) fn moves(&self) -> Moves {
+        let region = self.chains.region();
+        Moves {
+            objects: region.moved(),
+            segments: region.compacted(),
+        }
     }
 
     /// The plain chains.
@@ -122,7 +135,7 @@ impl Both {
         tally: &mut Tally,
     ) -> Result<(), AllocError> {
         self.touched = id;
-        match self.known.held.iter().position(|held| held.chain == id) {
+        match held_of(self.known.held.as_slice(), id) {
             Some(index) => Ok(self.release(index, tally)),
             None => self.free_one(alloc, id, tally),
         }
@@ -329,11 +342,10 @@ impl Both {
     ) -> Result<(), AllocError> {
         let made = lists::list_end(alloc, &mut self.chains, &mut self.known, at);
         tally.made("list", made);
-        if made {
-            let off = self.plain.list_end(alloc, at.chain, at.version as usize)?;
-            tally.expect(off, "is_listed");
+        if !made {
+            return Ok(());
         }
-        Ok(())
+        list_end(alloc, &mut self.plain, at, tally)
     }
 
     /// `unlist`, of an end dummy.
@@ -420,10 +432,7 @@ impl Both {
         if !made {
             return Ok(());
         }
-        self.plain.split(alloc, at.chain, at.version as usize, x)?;
-        self.plain
-            .set_flags(at.chain, at.version as usize, x, on, gap);
-        Ok(())
+        set_flags(alloc, &mut self.plain, at, x, on, gap)
     }
 
     /// `set_tombs`.
@@ -443,10 +452,7 @@ impl Both {
         if !made {
             return Ok(());
         }
-        self.plain.split(alloc, at.chain, at.version as usize, x)?;
-        self.plain
-            .set_tombs(at.chain, at.version as usize, x, on, gap);
-        Ok(())
+        set_tombs(alloc, &mut self.plain, at, x, on, gap)
     }
 
     /// `drop_entry`.
@@ -464,9 +470,7 @@ impl Both {
         if !made {
             return Ok(());
         }
-        self.plain.split(alloc, at.chain, at.version as usize, x)?;
-        self.plain.drop_entry(at.chain, at.version as usize, x);
-        Ok(())
+        drop_entry(alloc, &mut self.plain, at, x)
     }
 
     /// `drop_static`.
@@ -605,8 +609,7 @@ impl Both {
         tally.made("join_like, of a static row", turns.is_some());
         match turns {
             Some(turns) => {
-                let wanted = begin_static(alloc, &mut self.plain, id, phase, row, flag)?;
-                tally.expect(turns == wanted, "how far from the front a static row is");
+                turn_to_static(alloc, &mut self.plain, id, phase, row, flag, turns, tally)?;
                 self.plain
                     .join_static(alloc, to.chain, to.version as usize, row, None)
             }
@@ -630,13 +633,85 @@ impl Both {
         if !made {
             return Ok(());
         }
-        self.plain
-            .split(alloc, from.chain, from.version as usize, x)?;
-        self.plain.split(alloc, to.chain, to.version as usize, x)
+        split_both(alloc, &mut self.plain, to, from, x)
     }
 }
 
+// The index of the first snapshot of a chain.
+fn held_of(all: &[Held], id: u64) -> Option<usize> {
+    for (index, held) in all.iter().enumerate() {
+        if held.chain == id {
+            return Some(index);
+        }
+    }
+    None
+}
+
 // ---- on the plain chains
+
+// A split, and other flags.
+fn set_flags(
+    alloc: Global,
+    plain: &mut PlainMemory,
+    at: Numbered,
+    x: &Pos,
+    on: Flag,
+    gap: Flag,
+) -> Result<(), AllocError> {
+    plain.split(alloc, at.chain, at.version as usize, x)?;
+    plain.set_flags(at.chain, at.version as usize, x, on, gap);
+    Ok(())
+}
+
+// A split, and other tombstones.
+fn set_tombs(
+    alloc: Global,
+    plain: &mut PlainMemory,
+    at: Numbered,
+    x: &Pos,
+    on: Option<Tomb>,
+    gap: Option<Tomb>,
+) -> Result<(), AllocError> {
+    plain.split(alloc, at.chain, at.version as usize, x)?;
+    plain.set_tombs(at.chain, at.version as usize, x, on, gap);
+    Ok(())
+}
+
+// A split, and the entry is taken out.
+fn drop_entry(
+    alloc: Global,
+    plain: &mut PlainMemory,
+    at: Numbered,
+    x: &Pos,
+) -> Result<(), AllocError> {
+    plain.split(alloc, at.chain, at.version as usize, x)?;
+    plain.drop_entry(at.chain, at.version as usize, x);
+    Ok(())
+}
+
+// An end dummy goes into the list, in which it was not.
+fn list_end(
+    alloc: Global,
+    plain: &mut PlainMemory,
+    at: Numbered,
+    tally: &mut Tally,
+) -> Result<(), AllocError> {
+    let off = plain.list_end(alloc, at.chain, at.version as usize)?;
+    tally.expect(off, "is_listed");
+    Ok(())
+}
+
+// A split of one version, and of another one.
+fn split_both(
+    alloc: Global,
+    plain: &mut PlainMemory,
+    to: Numbered,
+    from: Numbered,
+    x: &Pos,
+) -> Result<(), AllocError> {
+    plain.split(alloc, from.chain, from.version as usize, x)?;
+    plain.split(alloc, to.chain, to.version as usize, x)
+}
 
 // A snapshot is taken, which has the same number and the same phase.
 fn take_snapshot(
@@ -696,6 +771,22 @@ fn join_like(
         Some(joined) => plain.join_row(alloc, to.chain, to.version as usize, x, &joined),
         None => Ok(()),
     }
+}
+
+// A version with a static row begins, which stands so many turns from the front.
+fn turn_to_static(
+    alloc: Global,
+    plain: &mut PlainMemory,
+    id: u64,
+    phase: u64,
+    row: &Row,
+    flag: Flag,
+    turns: u64,
+    tally: &mut Tally,
+) -> Result<(), AllocError> {
+    let wanted = begin_static(alloc, plain, id, phase, row, flag)?;
+    tally.expect(turns == wanted, "how far from the front a static row is");
+    Ok(())
 }
 
 // A version with a static row is put over those of a chain, and the list is turned until this row is first: how many turns it took.

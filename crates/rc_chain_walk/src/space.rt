@@ -11,35 +11,43 @@ use rc_position::{Comp, Key, Pos, Weight};
 use std::alloc::{AllocError, Global};
 
 /// The weights.
-const WEIGHTS: [Weight; 3] = [Weight::Before, Weight::At, Weight::After];
+const WEIGHTS: &[Weight] = &[Weight::Before, Weight::At, Weight::After];
 
 /// All positions at the keys of at most two components, each below three.
 pub(crate) fn all_positions(alloc: Global) -> Result<Vec<Pos>, AllocError> {
     let mut all = Vec::new(alloc);
     for weight in WEIGHTS {
-        push_positions(alloc, &mut all, weight)?;
+        push_positions(alloc, &mut all, *weight)?;
     }
     Ok(all)
 }
 
 // Those of one weight.
 fn push_positions(alloc: Global, all: &mut Vec<Pos>, weight: Weight) -> Result<(), AllocError> {
-    all.push(Pos {
-        prefix: Key::empty(alloc),
-        weight,
-    })?;
+    push_position(all, Key::empty(alloc), weight)?;
     for first in 0..3 {
-        all.push(Pos {
-            prefix: short_key(alloc, first)?,
-            weight,
-        })?;
-        for second in 0..3 {
-            all.push(Pos {
-                prefix: long_key(alloc, first, second)?,
-                weight,
-            })?;
-        }
+        push_longer(alloc, all, first, weight)?;
     }
+    Ok(())
+}
+
+// Those at keys with this first component.
+fn push_longer(
+    alloc: Global,
+    all: &mut Vec<Pos>,
+    first: u32,
+    weight: Weight,
+) -> Result<(), AllocError> {
+    push_position(all, short_key(alloc, first)?, weight)?;
+    for second in 0..3 {
+        push_position(all, long_key(alloc, first, second)?, weight)?;
+    }
+    Ok(())
+}
+
+// One of them.
+fn push_position(all: &mut Vec<Pos>, prefix: Key, weight: Weight) -> Result<(), AllocError> {
+    all.push(Pos { prefix, weight })?;
     Ok(())
 }
 

@@ -3,7 +3,7 @@
 use std::alloc::{AllocError, Global};
 
 /// The calls.
-pub(crate) const KINDS: [&str; 33] = [
+pub(crate) const KINDS: &[&str] = &[
     "new_chain",
     "add_version",
     "end_update",
@@ -57,7 +57,7 @@ impl Tally {
     pub(crate) fn new(alloc: Global) -> Result<Self, AllocError> {
         let mut calls = Vec::new(alloc);
         for kind in KINDS {
-            calls.push((kind, 0))?;
+            calls.push((*kind, 0))?;
         }
         Ok(Tally {
             calls,

@@ -4,9 +4,7 @@ ghost use Rattle.rc_rowcode.specs.Spelling.{KeyFits};
 
 use crate::both::{Both, begin as begin_both};
 use crate::chance::Chance;
-use crate::space::{
-    all_positions, some_flag, some_place, some_position, some_row, some_tomb, some_tomb_or_none,
-};
+use crate::space::{some_flag, some_place, some_position, some_row, some_tomb, some_tomb_or_none};
 use crate::tally::Tally;
 use rc_chain::ChainKind;
 use rc_chain_guarded::Numbered;
@@ -25,7 +23,6 @@ const MOST_VERSIONS: usize = 6;
 pub(crate) struct Walk {
     /// The chains in the region, and the plain ones.
     pub(crate) both: Both,
-    positions: Vec<Pos>,
     chance: Chance,
 }
 
@@ -33,21 +30,29 @@ pub(crate) struct Walk {
 pub(crate) fn begin(alloc: Global, seed: u64) -> Result<Walk, AllocError> {
     Ok(Walk {
         both: begin_both(alloc)?,
-        positions: all_positions(alloc)?,
         chance: Chance::new(seed),
     })
 }
 
 impl Walk {
-    /// One call more; then both are asked for what was touched, and now and then for all.
-    pub(crate) fn step(&mut self, alloc: Global, tally: &mut Tally) -> Result<(), AllocError> {
-        let fading = self.both.plain().detached();
-        match fading {
-            Some(id) if self.chance.happens(25) => self.both.fade(alloc, id, tally)?,
-            _ => self.go_on(alloc, tally)?,
-        }
+    /// One call more; then both are asked for what was touched, and now and then for all, at these positions.
+    pub(crate) fn step(
+        &mut self,
+        alloc: Global,
+        positions: &[Pos],
+        tally: &mut Tally,
+    ) -> Result<(), AllocError> {
+        self.call(alloc, tally)?;
         let all = self.chance.below(16) == 0;
-        self.both.ask(alloc, all, self.positions.as_slice(), tally)
+        self.both.ask(alloc, all, positions, tally)
+    }
+
+    // One call more: now and then one that frees a chain that is not found by its key.
+    fn call(&mut self, alloc: Global, tally: &mut Tally) -> Result<(), AllocError> {
+        match self.both.plain().detached() {
+            Some(id) if self.chance.happens(25) => self.both.fade(alloc, id, tally),
+            _ => self.go_on(alloc, tally),
+        }
     }
 
     // Some call, or one that brings a bare version nearer to being dropped.

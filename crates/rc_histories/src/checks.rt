@@ -1,13 +1,13 @@
 //! The definitions of continuity, tried at every position of the universe.
 
+use crate::chain::{Chain, Place, alone, upto};
+use crate::source::{Said, Source, is_same_row};
+use crate::tally::Tally;
+use crate::universe::{Universe, behind_key, end_position, start_position};
 use rc_cell::{Row, Tomb};
 use rc_core::{
     ChainKind, Entry, Flag, Part, PlainVersion, Seen, Side, base_at, first_part, head_of,
     is_at_place, is_known_at, is_known_in, seen_at, statics_at,
-};
-use rc_history_parts::{
-    Chain, Place, Said, Source, Tally, Universe, alone, behind_key, end_position, is_same_row,
-    start_position, upto,
 };
 use rc_mutation::greater_tomb;
 use rc_position::{Key, Pos, Weight};
@@ -23,39 +23,77 @@ pub(crate) fn check_chain(
     tally: &mut Tally,
 ) -> Result<(), AllocError> {
     check_form(alloc, chain, tally);
+    check_versions(alloc, universe, sources, chain, tally)?;
+    check_place(alloc, chain, tally)
+}
+
+fn check_versions(
+    alloc: Global,
+    universe: &Universe,
+    sources: &[Source],
+    chain: &Chain,
+    tally: &mut Tally,
+) -> Result<(), AllocError> {
     for number in 0..chain.versions.len() {
-        let versions = upto(chain.versions.as_slice(), number);
-        let phase = match versions.last() {
-            Some(version) => version.phase as usize,
-            None => 0,
-        };
-        if let Some(source) = sources.get(phase) {
-            check_version(alloc, universe, source, chain, number, tally)?;
-        } else {
+        check_number(alloc, universe, sources, chain, number, tally)?;
+    }
+    Ok(())
+}
+
+// The version of a number, by what the writes of its phase say.
+fn check_number(
+    alloc: Global,
+    universe: &Universe,
+    sources: &[Source],
+    chain: &Chain,
+    number: usize,
+    tally: &mut Tally,
+) -> Result<(), AllocError> {
+    match sources.get(phase_of(chain, number)) {
+        Some(source) => check_version(alloc, universe, source, chain, number, tally),
+        None => {
             tally.expect(false, "a version has a phase that no source has");
+            Ok(())
         }
     }
-    check_place(alloc, chain, tally)
+}
+
+fn phase_of(chain: &Chain, number: usize) -> usize {
+    match chain.versions.get(number) {
+        Some(version) => version.phase as usize,
+        None => 0,
+    }
 }
 
 // Versions end with their end dummies, and snapshots pin versions that there are, and not the one under update.
 fn check_form(alloc: Global, chain: &Chain, tally: &mut Tally) {
     let end = end_position(alloc);
+    check_entries(&end, chain, tally);
+    check_pins(chain, tally);
+}
+
+fn check_entries(end: &Pos, chain: &Chain, tally: &mut Tally) {
     for version in &chain.versions {
         tally.expect(
-            is_version(&end, version),
+            is_version(end, version),
             "entries ascend and end with the end dummy",
         );
     }
+}
+
+fn check_pins(chain: &Chain, tally: &mut Tally) {
     for pin in &chain.pins {
         if let Some(number) = pin {
-            let newest = chain.is_newest(*number);
             tally.expect(
-                *number < chain.versions.len() && !(newest && chain.is_updating()),
+                may_be_pinned(chain, *number),
                 "a snapshot pins a version that is not under update",
             );
         }
     }
+}
+
+fn may_be_pinned(chain: &Chain, number: usize) -> bool {
+    number < chain.versions.len() && !(chain.is_newest(number) && chain.is_updating())
 }
 
 // Whether entries ascend, and the last one is the end dummy.
@@ -77,15 +115,20 @@ fn is_version(end: &Pos, version: &PlainVersion) -> bool {
 
 // The version under update stands at the update's place.
 fn check_place(alloc: Global, chain: &Chain, tally: &mut Tally) -> Result<(), AllocError> {
-    let (Some(update), Some(version)) = (&chain.update, chain.versions.last()) else {
-        return Ok(());
-    };
-    let place = update.place(alloc)?;
-    tally.expect(
-        stands_at(&place, version),
-        "the version under update stands at its place",
-    );
+    match chain.place(alloc)? {
+        Some(place) => check_newest(&place, chain.versions.as_slice(), tally),
+        None => {}
+    }
     Ok(())
+}
+
+fn check_newest(place: &Place, versions: &[PlainVersion], tally: &mut Tally) {
+    if let Some(version) = versions.last() {
+        tally.expect(
+            stands_at(place, version),
+            "the version under update stands at its place",
+        );
+    }
 }
 
 fn stands_at(place: &Place, version: &PlainVersion) -> bool {
@@ -130,13 +173,37 @@ fn check_version(
     number: usize,
     tally: &mut Tally,
 ) -> Result<(), AllocError> {
-    let versions = upto(chain.versions.as_slice(), number);
-    for x in &universe.all {
-        check_base(alloc, versions, x, Side::On, tally)?;
-        check_base(alloc, versions, x, Side::Behind, tally)?;
-    }
+    check_bases(
+        alloc,
+        universe,
+        upto(chain.versions.as_slice(), number),
+        tally,
+    )?;
     let reach = chain.reach(alloc, number)?;
     check_reached(alloc, universe, source, chain, number, &reach, tally)
+}
+
+// At each position and over the gap behind it.
+fn check_bases(
+    alloc: Global,
+    universe: &Universe,
+    versions: &[PlainVersion],
+    tally: &mut Tally,
+) -> Result<(), AllocError> {
+    for x in &universe.all {
+        check_sides(alloc, versions, x, tally)?;
+    }
+    Ok(())
+}
+
+fn check_sides(
+    alloc: Global,
+    versions: &[PlainVersion],
+    x: &Pos,
+    tally: &mut Tally,
+) -> Result<(), AllocError> {
+    check_base(alloc, versions, x, Side::On, tally)?;
+    check_base(alloc, versions, x, Side::Behind, tally)
 }
 
 // The same of a version that an update has reached as far as this, if there is one.
@@ -150,11 +217,11 @@ fn check_reached(
     tally: &mut Tally,
 ) -> Result<(), AllocError> {
     check_kind(alloc, universe, source, chain, number, reach, tally)?;
-    if chain.is_needed(number) {
-        let versions = upto(chain.versions.as_slice(), number);
-        check_needed(alloc, universe, source, chain.kind, versions, reach, tally)?;
+    if !chain.is_needed(number) {
+        return Ok(());
     }
-    Ok(())
+    let versions = upto(chain.versions.as_slice(), number);
+    check_needed(alloc, universe, source, chain.kind, versions, reach, tally)
 }
 
 // What is asked of a version of a cache's chain, and of a memtable's.
@@ -170,20 +237,40 @@ fn check_kind(
     let versions = upto(chain.versions.as_slice(), number);
     let needed = chain.is_needed(number);
     match chain.kind {
-        ChainKind::Cache => {
-            check_within(alloc, source, versions, tally)?;
-            if needed {
-                check_head(alloc, source, versions, reach, tally)?;
-            }
-        }
+        ChainKind::Cache => check_cache(alloc, source, versions, needed, reach, tally),
         ChainKind::Memtable => {
-            check_inherits(alloc, universe, chain, number, tally)?;
-            if needed {
-                check_writes(alloc, source, versions, tally)?;
-            }
+            check_inherits(alloc, universe, alone(versions, number), tally)?;
+            check_memtable(alloc, source, versions, needed, tally)
         }
     }
-    Ok(())
+}
+
+fn check_cache(
+    alloc: Global,
+    source: &Source,
+    versions: &[PlainVersion],
+    needed: bool,
+    reach: &Option<Place>,
+    tally: &mut Tally,
+) -> Result<(), AllocError> {
+    check_within(alloc, source, versions, tally)?;
+    if !needed {
+        return Ok(());
+    }
+    check_head(alloc, source, versions, reach, tally)
+}
+
+fn check_memtable(
+    alloc: Global,
+    source: &Source,
+    versions: &[PlainVersion],
+    needed: bool,
+    tally: &mut Tally,
+) -> Result<(), AllocError> {
+    if !needed {
+        return Ok(());
+    }
+    check_writes(alloc, source, versions, tally)
 }
 
 // What is asked of a version that somebody needs: each position that is reached, and reading it.
@@ -196,13 +283,26 @@ fn check_needed(
     reach: &Option<Place>,
     tally: &mut Tally,
 ) -> Result<(), AllocError> {
+    check_positions(alloc, universe, source, kind, versions, reach, tally)?;
+    match reach {
+        Some(_) => Ok(()),
+        None => check_reading(alloc, kind, source, versions, tally),
+    }
+}
+
+fn check_positions(
+    alloc: Global,
+    universe: &Universe,
+    source: &Source,
+    kind: ChainKind,
+    versions: &[PlainVersion],
+    reach: &Option<Place>,
+    tally: &mut Tally,
+) -> Result<(), AllocError> {
     for x in &universe.all {
         if is_reached(reach, x) {
             check_position(alloc, kind, source, versions, x, tally)?;
         }
-    }
-    if reach.is_none() {
-        check_reading(alloc, kind, source, versions, tally)?;
     }
     Ok(())
 }
@@ -223,13 +323,31 @@ fn check_within(
     tally: &mut Tally,
 ) -> Result<(), AllocError> {
     for number in 0..versions.len() {
-        let one = alone(versions, number);
-        let within = are_statics_within(alloc, one, source)?;
-        tally.expect(within, "no version holds more than the source: static row");
-        for said in &source.places {
-            let within = is_place_within(alloc, one, said)?;
-            tally.expect(within, "no version holds more than the source");
-        }
+        check_one_within(alloc, source, alone(versions, number), tally)?;
+    }
+    Ok(())
+}
+
+fn check_one_within(
+    alloc: Global,
+    source: &Source,
+    one: &[PlainVersion],
+    tally: &mut Tally,
+) -> Result<(), AllocError> {
+    let within = are_statics_within(alloc, one, source)?;
+    tally.expect(within, "no version holds more than the source: static row");
+    check_places_within(alloc, source, one, tally)
+}
+
+fn check_places_within(
+    alloc: Global,
+    source: &Source,
+    one: &[PlainVersion],
+    tally: &mut Tally,
+) -> Result<(), AllocError> {
+    for said in &source.places {
+        let within = is_place_within(alloc, one, said)?;
+        tally.expect(within, "no version holds more than the source");
     }
     Ok(())
 }
@@ -255,9 +373,14 @@ fn is_within(
     row: &Row,
     tomb: Option<Tomb>,
 ) -> Result<bool, AllocError> {
-    let mut joined = row.copy(alloc)?;
-    joined.join(alloc, &seen.row)?;
+    let joined = joined_rows(alloc, row, &seen.row)?;
     Ok(is_same_row(&joined, row) && greater_tomb(tomb, seen.tomb) == tomb)
+}
+
+fn joined_rows(alloc: Global, row: &Row, other: &Row) -> Result<Row, AllocError> {
+    let mut joined = row.copy(alloc)?;
+    joined.join(alloc, other)?;
+    Ok(joined)
 }
 
 // The partition tombstone is complete, and the static row too where it is flagged, as far as the update's place has come.
@@ -268,24 +391,39 @@ fn check_head(
     reach: &Option<Place>,
     tally: &mut Tally,
 ) -> Result<(), AllocError> {
-    let (head, statics) = match reach {
-        Some(place) => (place.is_past_head(), place.is_past_statics()),
-        None => (true, true),
-    };
-    if head {
+    if is_past_head(reach) {
         tally.expect(
             head_of(versions) == source.pt,
             "the partition tombstone is the source's",
         );
     }
     let seen = statics_at(alloc, versions)?;
-    if statics && is_known_in(ChainKind::Cache, seen.flag) {
+    check_statics(source, is_past_statics(reach), &seen, tally);
+    Ok(())
+}
+
+fn is_past_head(reach: &Option<Place>) -> bool {
+    match reach {
+        Some(place) => place.is_past_head(),
+        None => true,
+    }
+}
+
+fn is_past_statics(reach: &Option<Place>) -> bool {
+    match reach {
+        Some(place) => place.is_past_statics(),
+        None => true,
+    }
+}
+
+// The static row of which this is seen, where the update has come past it or there is none.
+fn check_statics(source: &Source, past: bool, seen: &Seen, tally: &mut Tally) {
+    if past && is_known_in(ChainKind::Cache, seen.flag) {
         tally.expect(
             is_same_row(&seen.row, &source.statics),
             "a known static row is the source's",
         );
     }
-    Ok(())
 }
 
 // A position that is flagged is the source's, and one that is known and bare has the tombstone of the gap behind it.
@@ -298,13 +436,10 @@ fn check_position(
     tally: &mut Tally,
 ) -> Result<(), AllocError> {
     let seen = seen_at(alloc, versions, x, Side::On)?;
-    if !is_known_in(kind, seen.flag) {
-        return Ok(());
-    }
     check_seen(alloc, kind, source, versions, x, &seen, tally)
 }
 
-// The same of a position at which this is seen, which is flagged.
+// The same of a position at which this is seen.
 fn check_seen(
     alloc: Global,
     kind: ChainKind,
@@ -314,16 +449,28 @@ fn check_seen(
     seen: &Seen,
     tally: &mut Tally,
 ) -> Result<(), AllocError> {
+    if !is_known_in(kind, seen.flag) {
+        return Ok(());
+    }
+    check_flagged(source, x, seen, tally);
+    if !seen.row.is_empty() || !is_before_end(alloc, x) {
+        return Ok(());
+    }
+    check_bare(alloc, kind, versions, x, seen.tomb, tally)
+}
+
+// What is seen at a position is the source's.
+fn check_flagged(source: &Source, x: &Pos, seen: &Seen, tally: &mut Tally) {
     if let Some(said) = source.at(x) {
         tally.expect(
             is_same_row(&seen.row, &said.row) && seen.tomb == said.tomb,
             "what is flagged is the source's",
         );
     }
-    if seen.row.is_empty() && *x < end_position(alloc) {
-        return check_bare(alloc, kind, versions, x, seen.tomb, tally);
-    }
-    Ok(())
+}
+
+fn is_before_end(alloc: Global, x: &Pos) -> bool {
+    *x < end_position(alloc)
 }
 
 // A bare position has this tombstone where it is known, and so has the gap behind it.
@@ -335,13 +482,24 @@ fn check_bare(
     tomb: Option<Tomb>,
     tally: &mut Tally,
 ) -> Result<(), AllocError> {
-    if is_known_at(alloc, kind, versions, x)? {
-        let behind = seen_at(alloc, versions, x, Side::Behind)?;
-        tally.expect(
-            behind.tomb == tomb,
-            "the tombstone at a bare known position is that of the gap behind it",
-        );
+    if !is_known_at(alloc, kind, versions, x)? {
+        return Ok(());
     }
+    check_behind(alloc, versions, x, tomb, tally)
+}
+
+fn check_behind(
+    alloc: Global,
+    versions: &[PlainVersion],
+    x: &Pos,
+    tomb: Option<Tomb>,
+    tally: &mut Tally,
+) -> Result<(), AllocError> {
+    let behind = seen_at(alloc, versions, x, Side::Behind)?;
+    tally.expect(
+        behind.tomb == tomb,
+        "the tombstone at a bare known position is that of the gap behind it",
+    );
     Ok(())
 }
 
@@ -422,34 +580,53 @@ fn join_one(
 
 // Whether the same is seen.
 fn is_same_seen(seen: &Seen, other: &Seen) -> bool {
-    let flags = is_known_in(ChainKind::Cache, seen.flag)
-        == is_known_in(ChainKind::Cache, other.flag)
-        && is_deciding(seen.flag) == is_deciding(other.flag);
-    flags && seen.tomb == other.tomb && is_same_row(&seen.row, &other.row)
+    is_same_flag(seen.flag, other.flag)
+        && seen.tomb == other.tomb
+        && is_same_row(&seen.row, &other.row)
+}
+
+fn is_same_flag(flag: Flag, other: Flag) -> bool {
+    is_known_in(ChainKind::Cache, flag) == is_known_in(ChainKind::Cache, other)
+        && is_deciding(flag) == is_deciding(other)
 }
 
 // All flags of a version of a memtable's chain are Inherit.
 fn check_inherits(
     alloc: Global,
     universe: &Universe,
-    chain: &Chain,
-    number: usize,
+    one: &[PlainVersion],
     tally: &mut Tally,
 ) -> Result<(), AllocError> {
-    let one = alone(chain.versions.as_slice(), number);
     let statics = statics_at(alloc, one)?;
-    let mut inherits = !is_deciding(statics.flag);
+    tally.expect(
+        !is_deciding(statics.flag) && has_no_base(universe, one),
+        "all flags of a memtable are Inherit",
+    );
+    Ok(())
+}
+
+// Whether every place of a version is Inherit.
+fn has_no_base(universe: &Universe, one: &[PlainVersion]) -> bool {
     for x in &universe.all {
         if base_at(one, x, Side::On).is_some() || base_at(one, x, Side::Behind).is_some() {
-            inherits = false;
+            return false;
         }
     }
-    tally.expect(inherits, "all flags of a memtable are Inherit");
-    Ok(())
+    true
 }
 
 // A memtable's chain stands for its writes, and every place is known.
 fn check_writes(
+    alloc: Global,
+    source: &Source,
+    versions: &[PlainVersion],
+    tally: &mut Tally,
+) -> Result<(), AllocError> {
+    check_known(alloc, source, versions, tally)?;
+    check_written_head(alloc, source, versions, tally)
+}
+
+fn check_known(
     alloc: Global,
     source: &Source,
     versions: &[PlainVersion],
@@ -461,7 +638,7 @@ fn check_writes(
             "every place of a memtable is known",
         );
     }
-    check_written_head(alloc, source, versions, tally)
+    Ok(())
 }
 
 fn check_written_head(
@@ -564,14 +741,22 @@ fn check_part(
     match part {
         Part::Row { key, row, tomb } => {
             check_row(alloc, source, from, key, row, *tomb, tally)?;
-            Ok(Some(behind_key(alloc, key)?))
+            some(behind_key(alloc, key))
         }
         Part::Gap { to, tomb } => {
             check_gap(source, from, to, *tomb, tally);
-            Ok(Some(to.copy(alloc)?))
+            some(to.copy(alloc))
         }
-        Part::Missing { to } => Ok(Some(to.copy(alloc)?)),
+        Part::Missing { to } => some(to.copy(alloc)),
         Part::End => Ok(None),
+    }
+}
+
+// There is a next part, at this position.
+fn some(next: Result<Pos, AllocError>) -> Result<Option<Pos>, AllocError> {
+    match next {
+        Ok(next) => Ok(Some(next)),
+        Err(error) => Err(error),
     }
 }
 
@@ -584,16 +769,31 @@ fn check_row(
     tomb: Option<Tomb>,
     tally: &mut Tally,
 ) -> Result<(), AllocError> {
-    let at = Pos {
-        prefix: key.copy(alloc)?,
-        weight: Weight::At,
-    };
-    let holds = match source.at(&at) {
+    let at = row_position(alloc, key)?;
+    tally.expect(
+        at == *from && is_said(source, &at, row, tomb),
+        "a row that is read is the source's",
+    );
+    Ok(())
+}
+
+// The position of the row of a key.
+fn row_position(alloc: Global, key: &Key) -> Result<Pos, AllocError> {
+    match key.copy(alloc) {
+        Ok(prefix) => Ok(Pos {
+            prefix,
+            weight: Weight::At,
+        }),
+        Err(error) => Err(error),
+    }
+}
+
+// Whether the source says this at a position.
+fn is_said(source: &Source, at: &Pos, row: &Row, tomb: Option<Tomb>) -> bool {
+    match source.at(at) {
         Some(said) => is_same_row(&said.row, row) && said.tomb == tomb,
         None => false,
-    };
-    tally.expect(holds && at == *from, "a row that is read is the source's");
-    Ok(())
+    }
 }
 
 fn check_gap(source: &Source, from: &Pos, to: &Pos, tomb: Option<Tomb>, tally: &mut Tally) {

@@ -2,15 +2,28 @@
 //! of continuity, tried at every position of a small partition. What is printed is how often each kind of step was taken, and what was found.
 #![tactic(auto)]
 
+mod chain;
+mod chance;
 mod checks;
+mod cleaning;
+mod evicting;
+mod filling;
+mod history;
+mod source;
+mod step;
+mod tally;
+mod universe;
+mod updating;
 mod views;
+mod writing;
 
 use checks::check_chain;
+use history::History;
 use rc_core::ChainKind;
-use rc_history_parts::Tally;
-use rc_history_steps::{History, Step};
 use std::alloc::{AllocError, Global};
 use std::io;
+use step::Step;
+use tally::Tally;
 use views::{View, check_view};
 
 /// How many histories are replayed.
@@ -89,17 +102,32 @@ fn replay_all(alloc: Global, tally: &mut Tally) -> Result<u64, AllocError> {
     Ok(last)
 }
 
-fn main(rt: HostRuntime) -> io::Result<()> {
-    let mut tally = Tally::new(rt.alloc())?;
-    let last = replay_all(rt.alloc(), &mut tally)?;
+// How often each kind of step was taken.
+fn tell_steps(rt: &HostRuntime, tally: &Tally) -> io::Result<()> {
     for line in &tally.steps {
         let (kind, count) = *line;
         println!(rt; "{kind}: {count}")?;
     }
+    Ok(())
+}
+
+// What was found, up to the last history.
+fn tell_found(rt: &HostRuntime, tally: &Tally, last: u64) -> io::Result<()> {
     let (steps, checks) = (tally.total(), tally.checks);
     println!(rt; "{HISTORIES} histories, {steps} steps, {checks} checks")?;
     match tally.broken {
         None => println!(rt; "every definition held"),
         Some(what) => println!(rt; "broken in history {last}: {what}"),
     }
+}
+
+fn tell(rt: &HostRuntime, tally: &Tally, last: u64) -> io::Result<()> {
+    tell_steps(rt, tally)?;
+    tell_found(rt, tally, last)
+}
+
+fn main(rt: HostRuntime) -> io::Result<()> {
+    let mut tally = Tally::new(rt.alloc())?;
+    let last = replay_all(rt.alloc(), &mut tally)?;
+    tell(&rt, &tally, last)
 }

@@ -1,9 +1,13 @@
 //! What is seen of a chain and what is carried, before a step and behind it.
 
+use crate::chain::{Chain, Place, upto};
 use crate::checks::is_reached;
+use crate::history::History;
+use crate::source::is_same_row;
+use crate::step::{Effect, Step};
+use crate::tally::Tally;
+use crate::universe::{Universe, is_row_of};
 use rc_core::{ChainKind, PlainVersion, Seen, Side, is_known_at, is_known_in, seen_at, statics_at};
-use rc_history_parts::{Chain, Place, Tally, Universe, is_row_of, is_same_row, upto};
-use rc_history_steps::{Effect, History, Step};
 use rc_position::Pos;
 use std::alloc::{AllocError, Global};
 

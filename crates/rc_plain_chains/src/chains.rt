@@ -99,12 +99,14 @@ fn entry_at<'a>(entries: &'a [Entry], x: &Pos) -> Option<&'a Entry> {
     None
 }
 
-// The number of the entry at a position, where it is not the end dummy.
-fn inner_at(entries: &[Entry], x: &Pos) -> Option<usize> {
-    match entries.iter().position(|entry| *x == entry.position) {
-        Some(index) if index + 1 < entries.len() => Some(index),
-        _ => None,
+// The number of the entry at a position.
+fn index_at(entries: &[Entry], x: &Pos) -> Option<usize> {
+    for (index, entry) in entries.iter().enumerate() {
+        if *x == entry.position {
+            return Some(index);
+        }
     }
+    None
 }
 
 // The position of the last entry before the end dummy.
@@ -177,11 +179,31 @@ fn mark_entries(version: &mut PlainVersion, x: &Pos, at: Option<Tomb>, gap: Opti
 
 // An entry of a version goes, where it is not the end dummy.
 fn drop_inner(version: &mut PlainVersion, x: &Pos) {
-    if let Some(index) = inner_at(version.entries.as_slice(), x)
+    if let Some(index) = index_at(version.entries.as_slice(), x)
         && index < version.entries.len().saturating_sub(1)
     {
         rc_core::drop_entry(&mut version.entries, index);
     }
+}
+
+// The first number of a snapshot that is free; a new one where none is.
+fn free_number(pins: &[Option<usize>]) -> usize {
+    for (number, pin) in pins.iter().enumerate() {
+        if pin.is_none() {
+            return number;
+        }
+    }
+    pins.len()
+}
+
+// A snapshot pins a version, at a number that is free or a new one.
+fn set_pin(pins: &mut Vec<Option<usize>>, pin: usize, number: usize) -> Result<(), AllocError> {
+    if let Some(free) = pins.get_mut(pin) {
+        *free = Some(number);
+        return Ok(());
+    }
+    pins.push(Some(number))?;
+    Ok(())
 }
 
 impl PlainChain {
@@ -287,19 +309,9 @@ impl PlainChain {
         } else {
             self.newest()
         };
-        match self.pins.iter().position(|pin| pin.is_none()) {
-            Some(free) => {
-                if let Some(pin) = self.pins.get_mut(free) {
-                    *pin = Some(number);
-                }
-                Ok(free)
-            }
-            None => {
-                let free = self.pins.len();
-                self.pins.push(Some(number))?;
-                Ok(free)
-            }
-        }
+        let pin = free_number(self.pins.as_slice());
+        set_pin(&mut self.pins, pin, number)?;
+        Ok(pin)
     }
 
     /// `release`.

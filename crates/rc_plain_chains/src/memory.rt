@@ -53,6 +53,25 @@ fn row_of<'a>(entries: &'a [Entry], x: &Pos) -> Option<&'a Row> {
     None
 }
 
+// The index of the chain of a number.
+fn index_of(chains: &[PlainChain], id: u64) -> Option<usize> {
+    for (index, chain) in chains.iter().enumerate() {
+        if chain.id == id {
+            return Some(index);
+        }
+    }
+    None
+}
+
+// A snapshot of a chain: its number, and the phase of the version that it pins.
+fn take_snapshot(chain: &mut PlainChain) -> Result<Option<(u64, u64)>, AllocError> {
+    let pin = chain.snapshot()?;
+    match chain.phase_of(pin) {
+        Some(phase) => Ok(Some((pin as u64, phase))),
+        None => Ok(None),
+    }
+}
+
 impl PlainMemory {
     /// No chain.
     pub fn new(alloc: Global) -> Self
@@ -88,8 +107,7 @@ impl PlainMemory {
 
     /// Whether a chain of a number is there, or was and is to be told.
     pub fn has_number(&self, id: u64) -> bool {
-        self.chains.iter().any(|chain| chain.id == id)
-            || self.dropped.iter().any(|told| *told == id)
+        chain_of(self.chains.as_slice(), id).is_some() || self.dropped.contains(&id)
     }
 
     /// `new_chain`, of this number: a chain of one version of its end dummy alone.
@@ -156,10 +174,7 @@ impl PlainMemory {
         ensures { TellsNothing self.old self.new }
     {
         match with_id(self.chains.as_mut_slice(), id) {
-            Some(chain) => {
-                let pin = chain.snapshot()?;
-                Ok(chain.phase_of(pin).map(|phase| (pin as u64, phase)))
-            }
+            Some(chain) => take_snapshot(chain),
             None => Ok(None),
         }
     }
@@ -222,16 +237,17 @@ impl PlainMemory {
 
     // Whether a chain may be swept, where nothing of it is in the list.
     fn is_idle(&self, id: u64) -> bool {
-        self.chains
-            .iter()
-            .any(|chain| chain.id == id && chain.is_idle())
+        match chain_of(self.chains.as_slice(), id) {
+            Some(chain) => chain.is_idle(),
+            None => false,
+        }
     }
 
     // A chain goes, and is to be told.
     fn close(&mut self, id: u64) -> Result<(), AllocError>
         ensures { CountsNothing self.old self.new }
     {
-        if let Some(index) = self.chains.iter().position(|chain| chain.id == id)
+        if let Some(index) = index_of(self.chains.as_slice(), id)
             && index < self.chains.len()
         {
             let _closed = self.chains.remove(index);

@@ -77,16 +77,22 @@ impl Recency {
 
     // The index of an entry.
     fn index_of(&self, chain: u64, version: usize, x: &Pos) -> Option<usize> {
-        self.places
-            .iter()
-            .position(|place| place.is_entry(chain, version, x))
+        for (index, place) in self.places.iter().enumerate() {
+            if place.is_entry(chain, version, x) {
+                return Some(index);
+            }
+        }
+        None
     }
 
     // The index of a static row.
     fn index_of_static(&self, chain: u64, version: usize) -> Option<usize> {
-        self.places
-            .iter()
-            .position(|place| place.is_static(chain, version))
+        for (index, place) in self.places.iter().enumerate() {
+            if place.is_static(chain, version) {
+                return Some(index);
+            }
+        }
+        None
     }
 
     /// Whether an entry is in the list.

@@ -10,14 +10,20 @@ pub fn objects_of(plain: &[PlainChain]) -> u64 {
     let mut objects: u64 = 0;
     for chain in plain {
         for version in &chain.versions {
-            objects = objects.saturating_add(1);
-            objects = objects.saturating_add(version.entries.len() as u64);
-            if version.statics.is_some() {
-                objects = objects.saturating_add(1);
-            }
+            objects = objects.saturating_add(objects_of_version(version));
         }
     }
     objects
+}
+
+// The head of a version, its entries and its static row.
+fn objects_of_version(version: &PlainVersion) -> u64 {
+    let objects = (version.entries.len() as u64).saturating_add(1);
+    if version.statics.is_some() {
+        objects.saturating_add(1)
+    } else {
+        objects
+    }
 }
 
 /// Their bytes.

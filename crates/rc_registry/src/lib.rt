@@ -3,8 +3,6 @@
 
 mod pins;
 mod registry;
-#[cfg(test)]
-mod tests;
 mod uses;
 
 pub use pins::Pins;

@@ -216,11 +216,21 @@ pub(crate) fn set_tombs(entries: &mut [Entry], x: &Pos, at: Option<Tomb>, gap: O
 
 /// The entry at a position, or else the next one, taken out; what the gaps beside it said is lost. The end dummy stays.
 pub(crate) fn drop_entry(entries: &mut Vec<Entry>, x: &Pos) {
-    if let Some(index) = entries.iter().position(|entry| *x <= entry.position)
-        && index + 1 < entries.len()
+    if let Some(index) = index_from(entries.as_slice(), x)
+        && index < entries.len().saturating_sub(1)
     {
         rc_core::drop_entry(entries, index);
     }
+}
+
+// The number of the entry at a position, or else of the next one behind it.
+fn index_from(entries: &[Entry], x: &Pos) -> Option<usize> {
+    for (index, entry) in entries.iter().enumerate() {
+        if *x <= entry.position {
+            return Some(index);
+        }
+    }
+    None
 }
 
 // A static row joined to one, where there is one.

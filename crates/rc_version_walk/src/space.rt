@@ -11,7 +11,7 @@ use rc_position::{Comp, Key, Pos, Weight};
 use std::alloc::{AllocError, Global};
 
 /// The weights.
-const WEIGHTS: [Weight; 3] = [Weight::Before, Weight::At, Weight::After];
+const WEIGHTS: &[Weight] = &[Weight::Before, Weight::At, Weight::After];
 
 /// How many positions there are.
 pub(crate) const POSITIONS: usize = 39;
@@ -20,7 +20,7 @@ pub(crate) const POSITIONS: usize = 39;
 pub(crate) fn all_positions(alloc: Global) -> Result<Vec<Pos>, AllocError> {
     let mut all = Vec::new(alloc);
     for weight in WEIGHTS {
-        push_positions(alloc, &mut all, weight)?;
+        push_positions(alloc, &mut all, *weight)?;
     }
     Ok(all)
 }

@@ -3,7 +3,7 @@
 use std::alloc::{AllocError, Global};
 
 /// The calls, and those in which nothing was done.
-pub(crate) const KINDS: [&str; 16] = [
+pub(crate) const KINDS: &[&str] = &[
     "new_version and free_version",
     "split",
     "split_like",
@@ -38,7 +38,7 @@ impl Tally {
     pub(crate) fn new(alloc: Global) -> Result<Self, AllocError> {
         let mut calls = Vec::new(alloc);
         for kind in KINDS {
-            calls.push((kind, 0))?;
+            calls.push((*kind, 0))?;
         }
         Ok(Tally {
             calls,

@@ -1,0 +1,4 @@
+mod Furnished
+mod Listed
+mod Seated
+mod Walks

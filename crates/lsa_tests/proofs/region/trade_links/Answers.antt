@@ -1,0 +1,5 @@
+use Rattle.lsa_region.specs.declared.end.End.TheVariants.{Obj}
+use Rattle.lsa_tests.proofs.region.trade_links.Goals as goal
+
+pub returns : goal.returns
+returns c = c.trade.ensures (Obj c.args.r 0) c.requires

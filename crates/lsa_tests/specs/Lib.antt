@@ -1,0 +1,4 @@
+pub mod Furnished
+pub mod Listed
+pub mod Seated
+pub mod Walking

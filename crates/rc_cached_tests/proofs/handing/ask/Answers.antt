@@ -1,6 +1,0 @@
-use Rattle.std.proofs.Common.{inl}
-use Rattle.rc_stream.specs.laws.Ordered.{passes-itself}
-use Rattle.rc_cached_tests.proofs.handing.ask.Goals as goal
-
-pub returns : goal.returns
-returns g c = c.next.ensures.did c.args.upto.now (inl (passes-itself c.args.upto.now))

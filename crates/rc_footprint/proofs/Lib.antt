@@ -1,0 +1,14 @@
+mod Sums
+mod Weighed
+mod Bare
+mod Numbered
+mod Evicted
+mod Leaving
+mod Alike
+mod Calls
+mod Cached
+mod Used
+mod Putting
+mod Going
+mod Spared
+mod Ways

@@ -1,6 +1,0 @@
--- Each chain that was there is as it was.
-use Rattle.rc_unstored_tests.specs.Holding.{AreStillThere}
-use Rattle.rc_unstored_tests.proofs.room.fill.Given as goal
-
-abbrev pub invariant-loop-round : goal.invariant-loop-round
-invariant-loop-round l = AreStillThere l.initial.chains l.chains

@@ -1,5 +1,0 @@
-use Rattle.rc_unstored_tests.proofs.Left.{left-made}
-use Rattle.rc_unstored_tests.proofs.room.make_one.Goals as goal
-
-pub returns : goal.returns
-returns c = left-made _ _ _ _ _ _ _ c.in_ok-_id.ensures.made
