@@ -16,7 +16,7 @@ use Rattle.rc_core.specs.Version.{end_position}
 use Rattle.rc_memory.specs.Memory.{Memory}
 use Rattle.rc_chain.specs.declared.chains.Snap.{Snap}
 use Rattle.rc_stream.specs.Places.{Reaches}
-use Rattle.rc_stream.specs.Stream.{Stream, clustered, first_upto, is_clustered, is_upto, rest, static_of, start_of, stream_of, without_head}
+use Rattle.rc_stream.specs.Stream.{clustered, first_upto, is_clustered, is_upto, rest, stream_of, without_head}
 use Rattle.rc_cursor.specs.declared.readers.SnapshotReader.{SnapshotReader}
 use Rattle.rc_cursor.specs.Snapshots.{Knows}
 use Rattle.rc_cacheread.specs.Passing.{IsKnownFrom, IsKnownOver}

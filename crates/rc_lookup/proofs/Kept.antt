@@ -22,7 +22,7 @@ use Rattle.rc_populate.specs.laws.Opening.{some-and}
 use Rattle.rc_cursor.specs.Snapshots.{kind_in, versions_in, versions_upto}
 use Rattle.rc_entries.specs.Found.{entry_number}
 use Rattle.rc_filler.specs.Stands.{HasCacheSnapshot}
-use Rattle.rc_snapshots.specs.Seeing.{AreSameSnapshots, StillSees}
+use Rattle.rc_snapshots.specs.Seeing.{StillSees}
 use Rattle.rc_row_cache.specs.Saying.{Below, phase_pinned}
 use Rattle.rc_lookup.specs.Looked.{IsFound, IsLookedUp, IsStreamOf}
 use Rattle.rc_lookup.specs.calls.Reading.{IsHeadSaid, without_snap}

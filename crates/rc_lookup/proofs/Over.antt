@@ -1,6 +1,6 @@
 -- Stretches from the first of all positions on of which each is known, but for those inside a row.
-use Rattle.std.specs.Prelude.{◌≡◌, ◌≢◌, ◌⊎◌, List, Ok, Option}
-use Rattle.std.proofs.Common.{refl, subst, inl, inr}
+use Rattle.std.specs.Prelude.{◌≢◌, ◌⊎◌, List, Ok, Option}
+use Rattle.std.proofs.Common.{subst, inl, inr}
 use Rattle.rc_cell.specs.declared.rows.Row.{Row}
 use Rattle.rc_cell.specs.declared.writes.Tomb.{Tomb}
 use Rattle.rc_cell.specs.Winner.{empty_row}

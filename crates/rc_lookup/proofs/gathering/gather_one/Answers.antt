@@ -1,7 +1,6 @@
 -- The next is the first of those that are left; where there is none, none is left.
-use Rattle.std.proofs.Common.{◌≡◌, ◌++◌, ◌∷◌, [], true, false, Bool, Some, None, sym, ap, ◌∙◌, subst}
+use Rattle.std.proofs.Common.{◌≡◌, ◌++◌, ◌∷◌, [], true, false, Some, None, sym, ap, ◌∙◌, subst}
 use Rattle.std.specs.Prelude.{IfOk, Ok}
-use Rattle.rc_mutation.specs.declared.fragments.Frag.{Frag}
 use Rattle.rc_core.specs.Version.{end_position}
 use Rattle.rc_stream.specs.Leaving.{left_by}
 use Rattle.rc_stream.specs.Stream.{Stream, first_upto, rest, took}

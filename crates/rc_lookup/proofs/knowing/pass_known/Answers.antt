@@ -1,7 +1,6 @@
 -- A part that is known is passed.
 use Rattle.std.proofs.Common.{sym, ap, ◌∙◌, subst, arith}
 use Rattle.std.specs.Prelude.{IfOk}
-use Rattle.rc_core.specs.Version.{end_position}
 use Rattle.rc_stream.specs.Places.{Reaches}
 use Rattle.rc_stream.specs.Snapshot.{IsPartFrom, place_behind}
 use Rattle.rc_cursor.specs.Snapshots.{Knows}

@@ -1,7 +1,7 @@
 -- The snapshot that was taken is taken back.
 use Rattle.std.proofs.Common.{[], sym, ap, ◌∙◌, subst, arith}
 use Rattle.std.specs.Prelude.{IfOk, IfSome, Ok}
-use Rattle.rc_memory.specs.Memory.{Memory, with_dropped}
+use Rattle.rc_memory.specs.Memory.{with_dropped}
 use Rattle.rc_chain.specs.declared.chains.Snap.{Snap}
 use Rattle.rc_populate.specs.Filling.{MayFill}
 use Rattle.rc_row_cache.specs.Calls.{IsTakenOf}

@@ -1,12 +1,9 @@
 -- A new stream of the snapshot, of which all is known, is the stream of what the writes say.
-use Rattle.std.proofs.Common.{◌≡◌, ◌∷◌, [], None, List, sym, ap, ◌∙◌, subst, arith}
-use Rattle.std.specs.Prelude.{IfOk, IfSome}
-use Rattle.rc_mutation.specs.declared.mutations.Mutation.{Mutation}
+use Rattle.std.proofs.Common.{◌≡◌, sym, ap, ◌∙◌, subst, arith}
 use Rattle.rc_mutation.specs.Fragments.{fragments}
-use Rattle.rc_mutation.specs.Source.{IsMutation, SameSource}
 use Rattle.rc_memory.specs.Memory.{HasPin, Memory}
 use Rattle.rc_chain.specs.declared.chains.Snap.{Snap}
-use Rattle.rc_stream.specs.Stream.{Stream, clustered, stream_of, without_head}
+use Rattle.rc_stream.specs.Stream.{stream_of, without_head}
 use Rattle.rc_cursor.specs.declared.readers.SnapshotReader.{SnapshotReader}
 use Rattle.rc_cached.specs.Below.{nothing_read}
 use Rattle.rc_lookup.specs.calls.Reading.{without_snap}

@@ -7,7 +7,6 @@ use Rattle.rc_cursor.specs.Snapshots.{Knows}
 use Rattle.rc_cacheread.specs.Passing.{IsKnownOver}
 use Rattle.rc_snapshots.specs.Streams.{first_position}
 use Rattle.rc_lookup.specs.calls.Reading.{IsHeadSaid}
-use Rattle.rc_lookup.proofs.Kept.{has-pin}
 use Rattle.rc_lookup.proofs.looking.read_snapshot.Goals as goal
 
 pub read_known-requires : goal.read_known-requires
