@@ -1,7 +1,7 @@
 -- What is left where a snapshot was taken and taken back.
 use Rattle.std.proofs.Common.{inl, inr, ◌≡◌, ◌≢◌, ◌⊎◌, ℕ, zero, suc, List, [], ◌∷◌, Option, Some, None, IsSome, refl, sym, ap, ◌∙◌, subst, slice_index_or, arith}
 use Rattle.std.specs.Option.{option_map}
-use Rattle.std.specs.Prelude.{Err, IfOk, IfSome, IsSomeAnd, Ok, Result, length}
+use Rattle.std.specs.Prelude.{Err, IfNone, IfOk, IfSome, IsSomeAnd, Ok, Result, length, take}
 use Rattle.std.specs.declared.alloc.AllocError.{AllocError}
 use Rattle.rc_core.specs.declared.entries.ChainKind.TheVariants.{Cache, Memtable}
 use Rattle.rc_position.specs.Position.{Head}
@@ -19,13 +19,33 @@ use Rattle.rc_chain.specs.declared.chains.Snap.{Snap}
 use Rattle.rc_populate.specs.Filling.{MayFill}
 use Rattle.rc_stream.specs.Stream.{Stream, stream_of}
 use Rattle.rc_populate.specs.laws.Opening.{some-and}
-use Rattle.rc_cursor.specs.Snapshots.{kind_in, versions_in, versions_upto}
+use Rattle.rc_cursor.specs.Snapshots.{kind_in, kind_seen, versions_in, versions_seen, versions_upto}
 use Rattle.rc_entries.specs.Found.{entry_number}
 use Rattle.rc_filler.specs.Stands.{HasCacheSnapshot}
 use Rattle.rc_snapshots.specs.Seeing.{StillSees}
 use Rattle.rc_row_cache.specs.Saying.{Below, phase_pinned}
+use Rattle.rc_core.specs.Version.{Version}
+use Rattle.rc_lookup.specs.Known.{IsChainKnown, IsKnownWhole, IsSnapKnown}
 use Rattle.rc_lookup.specs.Looked.{IsFound, IsLookedUp, IsStreamOf}
 use Rattle.rc_lookup.specs.calls.Reading.{IsHeadSaid, without_snap}
+
+-- ---- lists and answers
+
+take-all : (vs : List Version) → take (length vs) vs ≡ vs
+take-all [] = refl
+take-all (v ∷ vs) = ap (λ us. v ∷ us) (take-all vs)
+
+pub same-number : (m n : ℕ) → Some m ≡ Some n → m ≡ n
+same-number m n e = cc
+
+pub none-there : (n : ℕ) → None ≡ Some n → ⊥
+none-there n e = cc
+
+-- what cannot be none is some
+pub is-some : (P : Type 0) (r : Result (Option Stream) AllocError) → IfOk r (λ o. IfNone o (P → ⊥)) → P → IfOk r IsSome
+is-some P (Ok None) h p = absurd (h p)
+is-some P (Ok (Some t)) h p = refl
+is-some P (Err e) h p = tt
 
 -- ---- the chain of a number, and those of others
 
@@ -130,6 +150,19 @@ module _ (s : Snap) (old mid : Memory) (taken : IsSnapshotTaken old mid s.chain 
         says = subst (λ vs. IsStreamOf (below s.chain (phase_at vs h.number)) t) same says;
       }
 
+  -- where all is known to the chain it is to the snapshot, which pins the newest version
+  pub snap-known : MayFill mid s.chain s.pin → IsChainKnown old s.chain → IsSnapKnown mid s
+  snap-known may whole =
+      let k = was (chain_at old s.chain) refl in
+      let here : h.chain ≡ with_snapshot (snapshot_number k.0.chain) k.0 = same_some h.chain (with_snapshot (snapshot_number k.0.chain) k.0) (sym h.there ∙ mid-here ∙ ap (option_map (λ (q : KeptChain). with_snapshot (snapshot_number q.chain) q)) k.1) in
+      let fills : MayPopulate (at_place Head h.chain.chain) h.number =
+      subst (λ (o : Option ℕ). IsSomeAnd o (MayPopulate (at_place Head h.chain.chain))) h.pinned (subst (λ (o : Option KeptChain). IsSomeAnd o (λ q. IsSomeAnd (pin_at q.chain.pins s.pin) (MayPopulate (at_place Head q.chain)))) h.there may) in
+      let versions : versions_seen mid s ≡ k.0.chain.versions =
+      ap (λ o. versions_in o s.pin) h.there ∙ ap (versions_upto h.chain.chain.versions) h.pinned ∙ ap (λ n. take n h.chain.chain.versions) fills.newest ∙ take-all h.chain.chain.versions ∙ ap (λ (q : KeptChain). q.chain.versions) here in
+      let kind : kind_seen mid s ≡ k.0.chain.kind = ap kind_in h.there ∙ ap (λ (q : KeptChain). q.chain.kind) here in
+      let all : IsKnownWhole k.0.chain.kind k.0.chain.versions = subst (λ (o : Option KeptChain). IsSomeAnd o (λ q. IsKnownWhole q.chain.kind q.chain.versions)) k.1 whole in
+      subst (λ q. IsKnownWhole q (versions_seen mid s)) (sym kind) (subst (IsKnownWhole k.0.chain.kind) (sym versions) all)
+
   pub looked : IsLookedUp old new
   looked = record {
     region = ap (λ (m : Memory). m.region) taken.now;
@@ -140,8 +173,8 @@ module _ (s : Snap) (old mid : Memory) (taken : IsSnapshotTaken old mid s.chain 
   }
 
 -- numbers that were told change nothing of this
-pub told-looked : (old new : Memory) → IsLookedUp (with_dropped [] old) new → IsLookedUp old new
-told-looked old new a = record { region = a.region; recency = a.recency; counts = a.counts; memtables = a.memtables; snapshots = record { alike = λ s on. (let x = a.snapshots.alike s on in record { pin = x.pin; versions = x.versions; kind = x.kind }); none_more = a.snapshots.none_more } }
+pub told-looked : (old now : Memory) → IsLookedUp (with_dropped [] old) now → IsLookedUp old now
+told-looked old now a = record { region = a.region; recency = a.recency; counts = a.counts; memtables = a.memtables; snapshots = record { alike = λ s on. (let x = a.snapshots.alike s on in record { pin = x.pin; versions = x.versions; kind = x.kind }); none_more = a.snapshots.none_more } }
 
 pub told-found : (key : List ℕ) (entries : List (List ℕ × ℕ)) (below : Below) (old : Memory) (t : Stream) → IsFound key entries below (with_dropped [] old) t → IsFound key entries below old t
 told-found key entries below old t a = record { chain = a.chain; kept = a.kept; newest = a.newest; entry = a.entry; there = a.there; cached = a.cached; last = a.last; says = a.says }

@@ -1,5 +1,5 @@
 // Whether all of a partition is known to a snapshot.
-ghost use Rattle.std.specs.Prelude.{◌≡◌, List, IfOk, IfSome, IsTrue};
+ghost use Rattle.std.specs.Prelude.{◌≡◌, false, List, IfNone, IfOk, IfSome, IsTrue};
 ghost use Rattle.rc_cell.specs.declared.rows.Row.{Row as Cells};
 ghost use Rattle.rc_mutation.specs.declared.mutations.Mutation.{Mutation};
 ghost use Rattle.rc_core.specs.Version.{end_position};
@@ -9,6 +9,7 @@ ghost use Rattle.rc_cursor.specs.Snapshots.{IsHeadSeen, IsReadable, Knows};
 ghost use Rattle.rc_cacheread.specs.Passing.{IsKnownOver};
 ghost use Rattle.rc_filler.specs.Stands.{StandsForWrites};
 ghost use Rattle.rc_snapshots.specs.Streams.{first_position};
+ghost use Rattle.rc_lookup.specs.Known.{IsSnapKnown};
 ghost use Rattle.rc_lookup.specs.calls.Reading.{IsHeadSaid};
 
 use crate::places::bare;
@@ -44,6 +45,8 @@ fn pass_known<const S: usize>(
     requires readable { IsReadable chains.now snap.now }
     requires end { end.now ≡ end_position }
     ensures known { IfOk result (λ next. next ≡ Next.Known → IsKnownOver (Knows chains.now snap.now) first_position cursor.old.last → IsKnownOver (Knows chains.now snap.now) first_position cursor.new.last) }
+    ensures on { IfOk result (λ next. next ≡ Next.Known → IsKnownOver (Knows chains.now snap.now) cursor.old.last end_position → IsKnownOver (Knows chains.now snap.now) cursor.new.last end_position) }
+    ensures unknown { IfOk result (λ next. next ≡ Next.Unknown → IsKnownOver (Knows chains.now snap.now) cursor.old.last end_position → ⊥) }
     ensures end { IfOk result (λ next. next ≡ Next.End → cursor.old.last ≡ end_position) }
 {
     match cursor.next_part(alloc, chains, snap, end) {
@@ -62,7 +65,8 @@ fn are_rows_known<const S: usize>(
 ) -> Result<bool, AllocError>
     requires pin { HasPin chains.now snap.now.chain snap.now.pin }
     requires readable { IsReadable chains.now snap.now }
-    ensures { IfOk result (λ known. IsTrue known → IsKnownOver (Knows chains.now snap.now) first_position end_position) }
+    ensures known { IfOk result (λ known. IsTrue known → IsKnownOver (Knows chains.now snap.now) first_position end_position) }
+    ensures unknown { IfOk result (λ known. known ≡ false → IsKnownOver (Knows chains.now snap.now) first_position end_position → ⊥) }
 {
     let mut cursor = Cursor::new(bare(alloc, Weight::Before));
     let end = bare(alloc, Weight::After);
@@ -76,7 +80,7 @@ fn are_rows_known<const S: usize>(
             Err(error) => return Err(error),
         }
     }
-    Ok(false)
+    Err(AllocError)
 }
 
 // A static row as a head has it: the empty row where nothing of it is seen.
@@ -89,14 +93,15 @@ fn row_of(alloc: Global, row: Option<Row>) -> Row
     }
 }
 
-// The head of a partition, where its static row is known to a snapshot.
+// The head of a partition, where its static row is known to a snapshot; none where it is not.
 fn known_head<const S: usize>(
     alloc: Global,
     chains: &Chains<S>,
     snap: &Snap,
 ) -> Result<Option<Head>, AllocError>
     requires { HasPin chains.now snap.now.chain snap.now.pin }
-    ensures { IfOk result (λ o. IfSome o (λ head. IsHeadSeen chains.now snap.now (record { head = head; known = Rattle.std.specs.Prelude.true }))) }
+    ensures some { IfOk result (λ o. IfSome o (λ head. IsHeadSeen chains.now snap.now (record { head = head; known = Rattle.std.specs.Prelude.true }))) }
+    ensures none { IfOk result (λ o. IfNone o (IsSnapKnown chains.now snap.now → ⊥)) }
 {
     a_snapshot_sees_up_to_its_version();
     match chains.head(snap) {
@@ -112,7 +117,7 @@ fn known_head<const S: usize>(
     }
 }
 
-/// The head of a partition, where all of it is known to a snapshot. The only error is want of memory.
+/// The head of a partition, where all of it is known to a snapshot; none where it is not. The only error is want of memory.
 pub(crate) fn known_whole<const S: usize>(
     alloc: Global,
     chains: &Chains<S>,
@@ -120,6 +125,7 @@ pub(crate) fn known_whole<const S: usize>(
 ) -> Result<Option<Head>, AllocError>
     requires { (writes : List Mutation) × StandsForWrites S chains.now snap.now.chain snap.now.pin writes }
     ensures known { IfOk result (λ o. IfSome o (λ _. IsKnownOver (Knows chains.now snap.now) first_position end_position)) }
+    ensures none { IfOk result (λ o. IfNone o (IsSnapKnown chains.now snap.now → ⊥)) }
     ensures head { (writes : List Mutation) → StandsForWrites S chains.now snap.now.chain snap.now.pin writes → IfOk result (λ o. IfSome o (IsHeadSaid writes)) }
 {
     a_snapshot_knows_the_writes_it_stands_for();

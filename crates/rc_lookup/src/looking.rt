@@ -1,10 +1,10 @@
 //! A partition looked up, whole.
-ghost use Rattle.std.specs.Prelude.{◌≡◌, ◌*◌, ◌/◌, ◌≤◌, ◌∷◌, ◌++◌, [], None, List as Sequence, IfOk, IfSome, OnOk};
+ghost use Rattle.std.specs.Prelude.{◌≡◌, ◌*◌, ◌/◌, ◌≤◌, ◌∷◌, ◌++◌, ℕ, [], None, Some, List as Sequence, IfNone, IfOk, IfSome, IsSome, OnOk};
 ghost use Rattle.rc_schema.specs.SchemaValue.{SchemaValue};
 ghost use Rattle.rc_mutation.specs.declared.mutations.Mutation.{Mutation};
 ghost use Rattle.rc_core.specs.Version.{end_position};
 ghost use Rattle.rc_chain.specs.declared.chains.Snap.{Snap as Snapshot};
-ghost use Rattle.rc_entries.specs.Found.{IsForgotten};
+ghost use Rattle.rc_entries.specs.Found.{IsForgotten, entry_number};
 ghost use Rattle.rc_entries.specs.Entries.{AreEntries};
 ghost use Rattle.rc_cursor.specs.Snapshots.{Knows};
 ghost use Rattle.rc_cacheread.specs.Passing.{IsKnownOver};
@@ -14,6 +14,7 @@ ghost use Rattle.rc_snapshots.specs.Streams.{first_position};
 ghost use Rattle.rc_cached.specs.Below.{nothing_read};
 ghost use Rattle.rc_cached.specs.Streams.{IsOfCached};
 ghost use Rattle.rc_row_cache.specs.Saying.{Below, CacheSays};
+ghost use Rattle.rc_lookup.specs.Known.{IsChainKnown, IsSnapKnown};
 ghost use Rattle.rc_lookup.specs.Looked.{IsCacheOver, IsFound, IsLookedUp, IsStreamOf};
 ghost use Rattle.rc_lookup.specs.calls.Reading.{AllClustered, IsHeadSaid, IsPassable, without_snap};
 
@@ -97,6 +98,7 @@ fn whole_stream<const S: usize>(
     ensures chains { chains.new ≡ chains.old }
     ensures of { (s : Snapshot) → IsOfCached s stream.old → IsOfCached s stream.new }
     ensures gives { (t : Stream) → ⟦<CachedStream as Frags<Chains<S>, Readings>>⟧.seen stream.old chains.old nothing_read t → AllClustered t.left → IfOk result (λ o. IfSome o (λ list. list ≡ record { head = head; tomb = None; left = t.left })) }
+    ensures some { IfOk result IsSome }
 {
     match whole_list(alloc, chains, stream, head) {
         Ok(list) => Ok(Some(ListFrags::new(list))),
@@ -117,6 +119,7 @@ fn read_known<const S: usize>(
     requires head { (writes : Sequence Mutation) → StandsForWrites S chains.old snap.chain snap.pin writes → IsHeadSaid writes head }
     ensures back { chains.new ≡ without_snap snap chains.old }
     ensures says { (writes : Sequence Mutation) → StandsForWrites S chains.old snap.chain snap.pin writes → IfOk result (λ o. IfSome o (IsStreamOf writes)) }
+    ensures some { IfOk result IsSome }
 {
     a_cached_stream_says_what_lies_below::<S>();
     a_mutations_stream_reads_it();
@@ -137,6 +140,7 @@ fn read_snapshot<const S: usize>(
     requires stands { (writes : Sequence Mutation) × StandsForWrites S chains.old snap.chain snap.pin writes }
     ensures back { chains.new ≡ without_snap snap chains.old }
     ensures says { (writes : Sequence Mutation) → StandsForWrites S chains.old snap.chain snap.pin writes → IfOk result (λ o. IfSome o (IsStreamOf writes)) }
+    ensures none { IfOk result (λ o. IfNone o (IsSnapKnown chains.old snap → ⊥)) }
 {
     match known_whole(alloc, chains, &snap) {
         Ok(Some(head)) => read_known(alloc, chains, snap, head),
@@ -162,6 +166,7 @@ pub fn lookup<const S: usize>(
     requires roomy { 8952 ≤ 7 * S / 8 }
     requires over { (schema : SchemaValue) × (below : Below) × IsCacheOver S schema below chains.old }
     ensures found { (schema : SchemaValue) (below : Below) → IsCacheOver S schema below chains.old → IfOk result (λ o. IfSome o (IsFound key.now cache.old.entries below chains.old)) }
+    ensures known { (id : ℕ) → entry_number cache.old.entries key.now ≡ Some id → IsChainKnown chains.old id → IfOk result IsSome }
     ensures left { IsLookedUp chains.old chains.new }
     ensures says { (schema : SchemaValue) (below : Below) → CacheSays schema below chains.old → CacheSays schema below chains.new }
     ensures entries { AreEntries cache.new.entries chains.new }
@@ -171,6 +176,7 @@ pub fn lookup<const S: usize>(
     each_change_leaves_the_caches_chains();
     the_cache_says_what_lies_below();
     what_leaves_the_caches_chains_leaves_the_entries();
+    chains.known();
     match cache.snapshot(chains, key) {
         Ok(Some(snap)) => read_snapshot(alloc, chains, snap),
         Ok(None) => Ok(None),

@@ -18,5 +18,5 @@ returns-in-Ok-true-clause-head g c = λ writes stands.
     let f = (filler_for s).filler in
     let law = c.a_snapshot_knows_the_writes_it_stands_for.ensures in
     let head = c.in-Ok-Some.head in
-    let seen = subst (λ r. IfOk r (λ o. IfSome o (λ (h : Head). IsHeadSeen m s (record { head = h; known = true })))) (c.in-Ok-Some.is ∙ ap Ok c.in-Ok-Some.field-0-is) c.known_head.ensures in
+    let seen = subst (λ r. IfOk r (λ o. IfSome o (λ (h : Head). IsHeadSeen m s (record { head = h; known = true })))) (c.in-Ok-Some.is ∙ ap Ok c.in-Ok-Some.field-0-is) c.known_head.ensures.some in
     record { pt = sym (seen.pt ∙ law.head g.row.S m f writes stands); statics = law.statics g.row.S m f writes stands head.statics (sym seen.known, sym seen.statics) }
