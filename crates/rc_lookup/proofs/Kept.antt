@@ -1,0 +1,211 @@
+-- What is left where a snapshot was taken and taken back.
+use Rattle.std.proofs.Common.{inl, inr, ◌≡◌, ◌≢◌, ◌⊎◌, ℕ, zero, suc, List, [], ◌∷◌, Option, Some, None, IsSome, refl, sym, ap, ◌∙◌, subst, slice_index_or, arith}
+use Rattle.std.specs.Option.{option_map}
+use Rattle.std.specs.Prelude.{Err, IfNone, IfOk, IfSome, IsSomeAnd, Ok, Result, length, take}
+use Rattle.std.specs.declared.alloc.AllocError.{AllocError}
+use Rattle.rc_core.specs.declared.entries.ChainKind.TheVariants.{Cache, Memtable}
+use Rattle.rc_position.specs.Position.{Head}
+use Rattle.rc_mutation.specs.declared.mutations.Mutation.{Mutation}
+use Rattle.rc_mutation.specs.declared.fragments.Head.{Head as HeadOf}
+use Rattle.rc_mutation.specs.Fragments.{fragments}
+use Rattle.rc_mutation.specs.Source.{IsMutation, SameSource, source_at_head, source_at_static}
+use Rattle.rc_core.specs.Chains.{at_place, phase_at}
+use Rattle.rc_core.specs.Steps.{MayPopulate, free_number, pin_at}
+use Rattle.rc_core.specs.laws.Pins.{pin-freed, pin-kept, pin-others, pin-was-free}
+use Rattle.rc_memory.specs.Memory.{HasPin, IsSnapshotTaken, KeptChain, Memory, chain_at, on_chain, snapshot_number, with_dropped, with_snapshot, without_snapshot}
+use Rattle.rc_memory.specs.laws.Places.{same_some}
+use Rattle.rc_memory.specs.laws.Put.{put-at, put-beside}
+use Rattle.rc_chain.specs.declared.chains.Snap.{Snap}
+use Rattle.rc_populate.specs.Filling.{MayFill}
+use Rattle.rc_stream.specs.Stream.{Stream, stream_of}
+use Rattle.rc_populate.specs.laws.Opening.{some-and}
+use Rattle.rc_cursor.specs.Snapshots.{kind_in, kind_seen, versions_in, versions_seen, versions_upto}
+use Rattle.rc_entries.specs.Found.{entry_number}
+use Rattle.rc_filler.specs.Stands.{HasCacheSnapshot}
+use Rattle.rc_snapshots.specs.Seeing.{StillSees}
+use Rattle.rc_row_cache.specs.Saying.{Below, phase_pinned}
+use Rattle.rc_core.specs.Version.{Version}
+use Rattle.rc_lookup.specs.Known.{IsChainKnown, IsKnownWhole, IsSnapKnown}
+use Rattle.rc_lookup.specs.Looked.{IsFound, IsLookedUp, IsStreamOf}
+use Rattle.rc_lookup.specs.calls.Reading.{IsHeadSaid, without_snap}
+
+-- ---- lists and answers
+
+take-all : (vs : List Version) → take (length vs) vs ≡ vs
+take-all [] = refl
+take-all (v ∷ vs) = ap (λ us. v ∷ us) (take-all vs)
+
+pub same-number : (m n : ℕ) → Some m ≡ Some n → m ≡ n
+same-number m n e = cc
+
+pub none-there : (n : ℕ) → None ≡ Some n → ⊥
+none-there n e = cc
+
+-- what cannot be none is some
+pub is-some : (P : Type 0) (r : Result (Option Stream) AllocError) → IfOk r (λ o. IfNone o (P → ⊥)) → P → IfOk r IsSome
+is-some P (Ok None) h p = absurd (h p)
+is-some P (Ok (Some t)) h p = refl
+is-some P (Err e) h p = tt
+
+-- ---- the chain of a number, and those of others
+
+decided : (m n : ℕ) → (m ≡ n) ⊎ (m ≢ n)
+decided zero zero = inl refl
+decided zero (suc n) = inr (omega arith)
+decided (suc m) zero = inr (omega arith)
+decided (suc m) (suc n) = elim (decided m n) [ inl e ↦ inl (ap (λ k. suc k) e) | inr e ↦ inr (λ x. e (omega arith)) ]
+
+pub here-or-beside : {P : Type 0} (id i : ℕ) → (i ≡ id → P) → ((i ≡ id → ⊥) → P) → P
+here-or-beside id i here beside = elim (decided i id) [ inl same ↦ here same | inr ne ↦ beside ne ]
+
+module _ (old new : Memory) (id : ℕ) (f : KeptChain → KeptChain) (is : new.chains ≡ on_chain id f old.chains) where
+  pub at-here : chain_at new id ≡ option_map f (chain_at old id)
+  at-here = ap (λ cs. slice_index_or cs id None) is ∙ put-at old.chains id (option_map f (chain_at old id))
+
+  pub at-beside : (i : ℕ) → (i ≡ id → ⊥) → chain_at new i ≡ chain_at old i
+  at-beside i ne = ap (λ cs. slice_index_or cs i None) is ∙ put-beside old.chains id (option_map f (chain_at old id)) i ne
+
+-- ---- a snapshot more, and then it is taken back
+
+-- the chain with one snapshot more, and then without it
+abbrev passed_by : ℕ → KeptChain → KeptChain
+passed_by pin k = without_snapshot pin (with_snapshot (snapshot_number k.chain) k)
+
+abbrev PinIn : ℕ → Option KeptChain → Type 0
+PinIn pin o = IsSomeAnd o (λ k. IsSome (pin_at k.chain.pins pin))
+
+not-some : (o : Option ℕ) → o ≡ None → IsSome o → ⊥
+not-some None e on = cc
+not-some (Some j) e on = cc
+
+-- each number pins what it pinned
+same-pins : (k : KeptChain) (pin other : ℕ) → pin ≡ free_number k.chain.pins → pin_at (passed_by pin k).chain.pins other ≡ pin_at k.chain.pins other
+same-pins k pin other e = here-or-beside pin other
+    (λ same. subst (λ n. pin_at (passed_by pin k).chain.pins n ≡ pin_at k.chain.pins n) (sym same) (pin-freed pin (with_snapshot (snapshot_number k.chain) k).chain.pins ∙ sym (ap (pin_at k.chain.pins) e ∙ pin-was-free k.chain.pins)))
+    (λ ne. pin-kept pin other (with_snapshot (snapshot_number k.chain) k).chain.pins ne ∙ pin-others (snapshot_number k.chain) k.chain.pins other (λ free. ne (free ∙ sym e)))
+
+module _ (s : Snap) (old mid : Memory) (taken : IsSnapshotTaken old mid s.chain s.pin s.phase) (h : HasCacheSnapshot mid s.chain s.pin) where
+  abbrev new : Memory
+  new = without_snap s mid
+
+  mid-here : chain_at mid s.chain ≡ option_map (λ k. with_snapshot (snapshot_number k.chain) k) (chain_at old s.chain)
+  mid-here = at-here old mid s.chain (λ k. with_snapshot (snapshot_number k.chain) k) (ap (λ (m : Memory). m.chains) taken.now)
+
+  here : (k : KeptChain) → chain_at old s.chain ≡ Some k → chain_at new s.chain ≡ Some (passed_by s.pin k)
+  here k e = at-here mid new s.chain (without_snapshot s.pin) refl ∙ ap (option_map (without_snapshot s.pin)) (mid-here ∙ ap (option_map (λ (q : KeptChain). with_snapshot (snapshot_number q.chain) q)) e)
+
+  beside : (i : ℕ) → (i ≡ s.chain → ⊥) → chain_at new i ≡ chain_at old i
+  beside i ne = at-beside mid new s.chain (without_snapshot s.pin) refl i ne ∙ at-beside old mid s.chain (λ k. with_snapshot (snapshot_number k.chain) k) (ap (λ (m : Memory). m.chains) taken.now) i ne
+
+  number : (k : KeptChain) → chain_at old s.chain ≡ Some k → s.pin ≡ free_number k.chain.pins
+  number k e = subst (λ (o : Option KeptChain). IfSome o (λ q. s.pin ≡ free_number q.chain.pins)) e taken.number
+
+  sees : (t : Snap) (k now : KeptChain) → chain_at old t.chain ≡ Some k → chain_at new t.chain ≡ Some now → now.chain.versions ≡ k.chain.versions → now.chain.kind ≡ k.chain.kind → pin_at now.chain.pins t.pin ≡ pin_at k.chain.pins t.pin → IsSome (pin_at k.chain.pins t.pin) → StillSees t old new
+  sees t k now e f versions kind pins on = record {
+    pin = subst (PinIn t.pin) (sym f) (subst (λ (o : Option ℕ). IsSome o) (sym pins) on);
+    versions = ap (λ o. versions_in o t.pin) f ∙ (λ i. versions_upto (versions i) (pins i)) ∙ sym (ap (λ o. versions_in o t.pin) e);
+    kind = ap kind_in f ∙ kind ∙ sym (ap kind_in e);
+  }
+
+  alike : (t : Snap) → HasPin old t.chain t.pin → StillSees t old new
+  alike t on =
+      let k = some-and (chain_at old t.chain) (λ q. IsSome (pin_at q.chain.pins t.pin)) on in
+      here-or-beside s.chain t.chain
+      (λ same. (let there = sym (ap (chain_at old) same) ∙ k.1 in sees t k.0 (passed_by s.pin k.0) k.1 (ap (chain_at new) same ∙ here k.0 there) refl refl (same-pins k.0 s.pin t.pin (number k.0 there)) k.2))
+      (λ ne. sees t k.0 k.0 k.1 (beside t.chain ne ∙ k.1) refl refl refl k.2)
+
+  -- the chain was there
+  was : (o : Option KeptChain) → chain_at old s.chain ≡ o → (k : KeptChain) × (chain_at old s.chain ≡ Some k) × (k.chain.kind ≡ Cache)
+  was None e = (let none : None ≡ Some h.chain = sym (mid-here ∙ ap (option_map (λ (q : KeptChain). with_snapshot (snapshot_number q.chain) q)) e) ∙ h.there in absurd (cc))
+  was (Some k) e = (k, e, ap (λ (q : KeptChain). q.chain.kind) (same_some (with_snapshot (snapshot_number k.chain) k) h.chain (sym (mid-here ∙ ap (option_map (λ (q : KeptChain). with_snapshot (snapshot_number q.chain) q)) e) ∙ h.there)) ∙ h.cached)
+
+  none-more : (t : Snap) → HasPin new t.chain t.pin → HasPin old t.chain t.pin
+  none-more t on =
+      let k = was (chain_at old s.chain) refl in
+      here-or-beside s.chain t.chain
+      (λ same. subst (PinIn t.pin) (sym (ap (chain_at old) same ∙ k.1)) (subst (λ (o : Option ℕ). IsSome o) (same-pins k.0 s.pin t.pin (number k.0 k.1)) (subst (PinIn t.pin) (ap (chain_at new) same ∙ here k.0 k.1) on)))
+      (λ ne. subst (PinIn t.pin) (beside t.chain ne) on)
+
+  memtable : (id : ℕ) (k : KeptChain) → chain_at old id ≡ Some k → k.chain.kind ≡ Memtable → chain_at new id ≡ Some k
+  memtable id k e kind = here-or-beside s.chain id
+      (λ same. (let c = was (chain_at old s.chain) refl in
+      let clash : Memtable ≡ Cache = sym kind ∙ ap (λ (q : KeptChain). q.chain.kind) (same_some k c.0 (sym e ∙ ap (chain_at old) same ∙ c.1)) ∙ c.2 in absurd (cc)))
+      (λ ne. beside id ne ∙ e)
+
+  -- its chain, of which it pins the newest version
+  pub found : (key : List ℕ) (entries : List (List ℕ × ℕ)) (below : Below) (t : Stream) → entry_number entries key ≡ Some s.chain → MayFill mid s.chain s.pin → IsStreamOf (below s.chain (phase_pinned h)) t → IsFound key entries below old t
+  found key entries below t entry may says =
+      let k = was (chain_at old s.chain) refl in
+      let same : h.chain.chain.versions ≡ k.0.chain.versions = ap (λ (q : KeptChain). q.chain.versions) (same_some h.chain (with_snapshot (snapshot_number k.0.chain) k.0) (sym h.there ∙ mid-here ∙ ap (option_map (λ (q : KeptChain). with_snapshot (snapshot_number q.chain) q)) k.1)) in
+      let fills : MayPopulate (at_place Head h.chain.chain) h.number =
+      subst (λ (o : Option ℕ). IsSomeAnd o (MayPopulate (at_place Head h.chain.chain))) h.pinned (subst (λ (o : Option KeptChain). IsSomeAnd o (λ q. IsSomeAnd (pin_at q.chain.pins s.pin) (MayPopulate (at_place Head q.chain)))) h.there may) in
+      record {
+        chain = s.chain;
+        kept = k.0;
+        newest = h.number;
+        entry = entry;
+        there = k.1;
+        cached = k.2;
+        last = fills.newest ∙ ap length same;
+        says = subst (λ vs. IsStreamOf (below s.chain (phase_at vs h.number)) t) same says;
+      }
+
+  -- where all is known to the chain it is to the snapshot, which pins the newest version
+  pub snap-known : MayFill mid s.chain s.pin → IsChainKnown old s.chain → IsSnapKnown mid s
+  snap-known may whole =
+      let k = was (chain_at old s.chain) refl in
+      let here : h.chain ≡ with_snapshot (snapshot_number k.0.chain) k.0 = same_some h.chain (with_snapshot (snapshot_number k.0.chain) k.0) (sym h.there ∙ mid-here ∙ ap (option_map (λ (q : KeptChain). with_snapshot (snapshot_number q.chain) q)) k.1) in
+      let fills : MayPopulate (at_place Head h.chain.chain) h.number =
+      subst (λ (o : Option ℕ). IsSomeAnd o (MayPopulate (at_place Head h.chain.chain))) h.pinned (subst (λ (o : Option KeptChain). IsSomeAnd o (λ q. IsSomeAnd (pin_at q.chain.pins s.pin) (MayPopulate (at_place Head q.chain)))) h.there may) in
+      let versions : versions_seen mid s ≡ k.0.chain.versions =
+      ap (λ o. versions_in o s.pin) h.there ∙ ap (versions_upto h.chain.chain.versions) h.pinned ∙ ap (λ n. take n h.chain.chain.versions) fills.newest ∙ take-all h.chain.chain.versions ∙ ap (λ (q : KeptChain). q.chain.versions) here in
+      let kind : kind_seen mid s ≡ k.0.chain.kind = ap kind_in h.there ∙ ap (λ (q : KeptChain). q.chain.kind) here in
+      let all : IsKnownWhole k.0.chain.kind k.0.chain.versions = subst (λ (o : Option KeptChain). IsSomeAnd o (λ q. IsKnownWhole q.chain.kind q.chain.versions)) k.1 whole in
+      subst (λ q. IsKnownWhole q (versions_seen mid s)) (sym kind) (subst (IsKnownWhole k.0.chain.kind) (sym versions) all)
+
+  pub looked : IsLookedUp old new
+  looked = record {
+    region = ap (λ (m : Memory). m.region) taken.now;
+    recency = ap (λ (m : Memory). m.recency) taken.now;
+    counts = ap (λ (m : Memory). m.counts) taken.now;
+    memtables = memtable;
+    snapshots = record { alike = alike; none_more = none-more };
+  }
+
+-- numbers that were told change nothing of this
+pub told-looked : (old now : Memory) → IsLookedUp (with_dropped [] old) now → IsLookedUp old now
+told-looked old now a = record { region = a.region; recency = a.recency; counts = a.counts; memtables = a.memtables; snapshots = record { alike = λ s on. (let x = a.snapshots.alike s on in record { pin = x.pin; versions = x.versions; kind = x.kind }); none_more = a.snapshots.none_more } }
+
+pub told-found : (key : List ℕ) (entries : List (List ℕ × ℕ)) (below : Below) (old : Memory) (t : Stream) → IsFound key entries below (with_dropped [] old) t → IsFound key entries below old t
+told-found key entries below old t a = record { chain = a.chain; kept = a.kept; newest = a.newest; entry = a.entry; there = a.there; cached = a.cached; last = a.last; says = a.says }
+
+-- what holds of each stream that may be found
+pub if-found : (P Q : Stream → Type 0) (r : Result (Option Stream) AllocError) → ((t : Stream) → P t → Q t) → IfOk r (λ o. IfSome o P) → IfOk r (λ o. IfSome o Q)
+if-found P Q (Ok None) f h = tt
+if-found P Q (Ok (Some t)) f h = f t h
+if-found P Q (Err e) f h = tt
+
+-- what holds of it for each mutation that says what writes say
+pub all-found : (writes : List Mutation) (r : Result (Option Stream) AllocError) → ((said : Mutation) → IsMutation said → SameSource (said ∷ []) writes → IfOk r (λ o. IfSome o (λ t. t ≡ stream_of (fragments said)))) → IfOk r (λ o. IfSome o (IsStreamOf writes))
+all-found writes (Ok None) f = tt
+all-found writes (Ok (Some t)) f = f
+all-found writes (Err e) f = tt
+
+-- what is left behind a head that writes say is the stream of such a mutation
+pub said-stream : (head : HeadOf) (writes : List Mutation) (said : Mutation) → (stream_of (fragments said)).head.pt ≡ source_at_head (said ∷ []) → (stream_of (fragments said)).head.statics ≡ source_at_static (said ∷ []) → SameSource (said ∷ []) writes → IsHeadSaid writes head →
+    (r : Result (Option Stream) AllocError) → IfOk r (λ o. IfSome o (λ t. t ≡ record { head = head; tomb = None; left = (stream_of (fragments said)).left })) → IfOk r (λ o. IfSome o (λ t. t ≡ stream_of (fragments said)))
+said-stream head writes said pt statics same has r h =
+    let a : head.pt ≡ (stream_of (fragments said)).head.pt = sym has.pt ∙ sym same.head ∙ sym pt in
+    let b : head.statics ≡ (stream_of (fragments said)).head.statics = sym has.statics ∙ sym same.statics ∙ sym statics in
+    if-found (λ t. t ≡ record { head = head; tomb = None; left = (stream_of (fragments said)).left }) (λ t. t ≡ stream_of (fragments said)) r
+    (λ t e. e ∙ (λ i. record { head = record { pt = a i; statics = b i }; tomb = None; left = (stream_of (fragments said)).left })) h
+
+-- a snapshot of a cache chain is one
+pub has-pin : (m : Memory) (id pin : ℕ) → HasCacheSnapshot m id pin → HasPin m id pin
+has-pin m id pin h = subst (PinIn pin) (sym h.there) (subst (λ (o : Option ℕ). IsSome o) (sym h.pinned) refl)
+
+pub same-source : (writes : List Mutation) → SameSource writes writes
+same-source writes = record { head = refl; statics = refl; clustered = λ x. refl }
+
+pub looked-none : (old : Memory) → IsLookedUp old old
+looked-none old = record { region = refl; recency = refl; counts = refl; memtables = λ id k e kind. e; snapshots = record { alike = λ s on. record { pin = on; versions = refl; kind = refl }; none_more = λ s on. on } }

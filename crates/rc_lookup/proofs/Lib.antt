@@ -1,0 +1,4 @@
+mod Orders
+mod Over
+mod Gathered
+mod Kept

@@ -1,0 +1,3 @@
+-- What inner functions promise each other.
+pub mod Reading
+pub mod Words

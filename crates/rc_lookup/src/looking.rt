@@ -1,0 +1,185 @@
+//! A partition looked up, whole.
+ghost use Rattle.std.specs.Prelude.{◌≡◌, ◌*◌, ◌/◌, ◌≤◌, ◌∷◌, ◌++◌, ℕ, [], None, Some, List as Sequence, IfNone, IfOk, IfSome, IsSome, OnOk};
+ghost use Rattle.rc_schema.specs.SchemaValue.{SchemaValue};
+ghost use Rattle.rc_mutation.specs.declared.mutations.Mutation.{Mutation};
+ghost use Rattle.rc_core.specs.Version.{end_position};
+ghost use Rattle.rc_chain.specs.declared.chains.Snap.{Snap as Snapshot};
+ghost use Rattle.rc_entries.specs.Found.{IsForgotten, entry_number};
+ghost use Rattle.rc_entries.specs.Entries.{AreEntries};
+ghost use Rattle.rc_cursor.specs.Snapshots.{Knows};
+ghost use Rattle.rc_cacheread.specs.Passing.{IsKnownOver};
+ghost use Rattle.rc_filler.specs.Stands.{StandsForWrites};
+ghost use Rattle.rc_stream.specs.Stream.{Stream};
+ghost use Rattle.rc_snapshots.specs.Streams.{first_position};
+ghost use Rattle.rc_cached.specs.Below.{nothing_read};
+ghost use Rattle.rc_cached.specs.Streams.{IsOfCached};
+ghost use Rattle.rc_row_cache.specs.Saying.{Below, CacheSays};
+ghost use Rattle.rc_lookup.specs.Known.{IsChainKnown, IsSnapKnown};
+ghost use Rattle.rc_lookup.specs.Looked.{IsCacheOver, IsFound, IsLookedUp, IsStreamOf};
+ghost use Rattle.rc_lookup.specs.calls.Reading.{AllClustered, IsHeadSaid, IsPassable, without_snap};
+
+use crate::gathering::{gather, put_behind};
+use crate::knowing::known_whole;
+use rc_cached::laws::a_cached_stream_says_what_lies_below;
+use rc_cached::{CachedStream, Readings, cached_stream};
+use rc_chain::{Chains, Snap};
+use rc_entries::laws::{
+    each_change_leaves_the_caches_chains, what_leaves_the_caches_chains_leaves_the_entries,
+};
+use rc_mutation::{Frag, FragList, Head};
+use rc_position::PartKey;
+use rc_row_cache::RowCache;
+use rc_row_cache::laws::{a_snapshot_stands_for_what_lies_below, the_cache_says_what_lies_below};
+use rc_snapshots::laws::a_mutations_stream_reads_it;
+use rc_stream::{Frags, ListFrags};
+use std::alloc::{AllocError, Global};
+
+// Puts a head in front of the fragments that are gathered behind it.
+fn put_head(made: &mut Vec<Frag>, head: Head) -> Result<bool, AllocError>
+    ensures { OnOk result (made.new.items ≡ (made.old.items ++ Frag.Start head.pt ∷ []) ++ Frag.Static head.statics ∷ []) }
+{
+    let Head { pt, statics } = head;
+    match put_behind(made, Frag::Start(pt)) {
+        Ok(_) => put_behind(made, Frag::Static(statics)),
+        Err(error) => Err(error),
+    }
+}
+
+// Puts a head, and then all that is left of a stream, behind others.
+fn gather_behind<const S: usize>(
+    alloc: Global,
+    chains: &mut Chains<S>,
+    stream: &mut CachedStream,
+    head: Head,
+    made: &mut Vec<Frag>,
+) -> Result<(), AllocError>
+    requires ready { ⟦<CachedStream as Frags<Chains<S>, Readings>>⟧.ready stream.old chains.old nothing_read }
+    requires known { IsPassable chains.old stream.old }
+    ensures chains { chains.new ≡ chains.old }
+    ensures of { (s : Snapshot) → IsOfCached s stream.old → IsOfCached s stream.new }
+    ensures all { (t : Stream) → ⟦<CachedStream as Frags<Chains<S>, Readings>>⟧.seen stream.old chains.old nothing_read t → AllClustered t.left →
+        OnOk result (made.new.items ≡ ((made.old.items ++ Frag.Start head.pt ∷ []) ++ Frag.Static head.statics ∷ []) ++ t.left) }
+{
+    match put_head(made, head) {
+        Ok(_) => gather(alloc, chains, stream, made),
+        Err(error) => Err(error),
+    }
+}
+
+// The fragments of a partition whose head is this, once the rest was gathered from a stream.
+fn whole_list<const S: usize>(
+    alloc: Global,
+    chains: &mut Chains<S>,
+    stream: &mut CachedStream,
+    head: Head,
+) -> Result<FragList, AllocError>
+    requires ready { ⟦<CachedStream as Frags<Chains<S>, Readings>>⟧.ready stream.old chains.old nothing_read }
+    requires known { IsPassable chains.old stream.old }
+    ensures chains { chains.new ≡ chains.old }
+    ensures of { (s : Snapshot) → IsOfCached s stream.old → IsOfCached s stream.new }
+    ensures all { (t : Stream) → ⟦<CachedStream as Frags<Chains<S>, Readings>>⟧.seen stream.old chains.old nothing_read t → AllClustered t.left → IfOk result (λ list. list ≡ Frag.Start head.pt ∷ Frag.Static head.statics ∷ t.left) }
+{
+    let mut made = Vec::new(alloc);
+    match gather_behind(alloc, chains, stream, head, &mut made) {
+        Ok(()) => FragList::from_slice(alloc, made.as_slice()),
+        Err(error) => Err(error),
+    }
+}
+
+// What a new stream of a snapshot says, of which all is known, and whose head is this.
+fn whole_stream<const S: usize>(
+    alloc: Global,
+    chains: &mut Chains<S>,
+    stream: &mut CachedStream,
+    head: Head,
+) -> Result<Option<ListFrags>, AllocError>
+    requires ready { ⟦<CachedStream as Frags<Chains<S>, Readings>>⟧.ready stream.old chains.old nothing_read }
+    requires known { IsPassable chains.old stream.old }
+    ensures chains { chains.new ≡ chains.old }
+    ensures of { (s : Snapshot) → IsOfCached s stream.old → IsOfCached s stream.new }
+    ensures gives { (t : Stream) → ⟦<CachedStream as Frags<Chains<S>, Readings>>⟧.seen stream.old chains.old nothing_read t → AllClustered t.left → IfOk result (λ o. IfSome o (λ list. list ≡ record { head = head; tomb = None; left = t.left })) }
+    ensures some { IfOk result IsSome }
+{
+    match whole_list(alloc, chains, stream, head) {
+        Ok(list) => Ok(Some(ListFrags::new(list))),
+        Err(error) => Err(error),
+    }
+}
+
+// What a snapshot says, of which all is known, and whose head is this. It is taken back.
+fn read_known<const S: usize>(
+    alloc: Global,
+    chains: &mut Chains<S>,
+    snap: Snap,
+    head: Head,
+) -> Result<Option<ListFrags>, AllocError>
+    requires roomy { 8952 ≤ 7 * S / 8 }
+    requires stands { (writes : Sequence Mutation) × StandsForWrites S chains.old snap.chain snap.pin writes }
+    requires known { IsKnownOver (Knows chains.old snap) first_position end_position }
+    requires head { (writes : Sequence Mutation) → StandsForWrites S chains.old snap.chain snap.pin writes → IsHeadSaid writes head }
+    ensures back { chains.new ≡ without_snap snap chains.old }
+    ensures says { (writes : Sequence Mutation) → StandsForWrites S chains.old snap.chain snap.pin writes → IfOk result (λ o. IfSome o (IsStreamOf writes)) }
+    ensures some { IfOk result IsSome }
+{
+    a_cached_stream_says_what_lies_below::<S>();
+    a_mutations_stream_reads_it();
+    let mut stream = cached_stream(alloc, snap);
+    let said = whole_stream(alloc, chains, &mut stream, head);
+    let (known, _below, _filler) = stream.finish();
+    chains.release(known.into_snap());
+    said
+}
+
+// What a snapshot says, where all of it is known; none where something of it is not. It is taken back.
+fn read_snapshot<const S: usize>(
+    alloc: Global,
+    chains: &mut Chains<S>,
+    snap: Snap,
+) -> Result<Option<ListFrags>, AllocError>
+    requires roomy { 8952 ≤ 7 * S / 8 }
+    requires stands { (writes : Sequence Mutation) × StandsForWrites S chains.old snap.chain snap.pin writes }
+    ensures back { chains.new ≡ without_snap snap chains.old }
+    ensures says { (writes : Sequence Mutation) → StandsForWrites S chains.old snap.chain snap.pin writes → IfOk result (λ o. IfSome o (IsStreamOf writes)) }
+    ensures none { IfOk result (λ o. IfNone o (IsSnapKnown chains.old snap → ⊥)) }
+{
+    match known_whole(alloc, chains, &snap) {
+        Ok(Some(head)) => read_known(alloc, chains, snap, head),
+        Ok(None) => {
+            chains.release(snap);
+            Ok(None)
+        }
+        Err(error) => {
+            chains.release(snap);
+            Err(error)
+        }
+    }
+}
+
+/// What the tables say of a partition, where the row cache knows all of it: as the stream of its fragments, from the beginning. None where the partition is not in the cache, or something of it is not known. Entries whose chains are gone are forgotten. The only error is want of memory.
+pub fn lookup<const S: usize>(
+    alloc: Global,
+    cache: &mut RowCache,
+    chains: &mut Chains<S>,
+    key: &PartKey,
+) -> Result<Option<ListFrags>, AllocError>
+    requires entries { AreEntries cache.old.entries chains.old }
+    requires roomy { 8952 ≤ 7 * S / 8 }
+    requires over { (schema : SchemaValue) × (below : Below) × IsCacheOver S schema below chains.old }
+    ensures found { (schema : SchemaValue) (below : Below) → IsCacheOver S schema below chains.old → IfOk result (λ o. IfSome o (IsFound key.now cache.old.entries below chains.old)) }
+    ensures known { (id : ℕ) → entry_number cache.old.entries key.now ≡ Some id → IsChainKnown chains.old id → IfOk result IsSome }
+    ensures left { IsLookedUp chains.old chains.new }
+    ensures says { (schema : SchemaValue) (below : Below) → CacheSays schema below chains.old → CacheSays schema below chains.new }
+    ensures entries { AreEntries cache.new.entries chains.new }
+    ensures forgotten { IsForgotten chains.old.dropped cache.old.entries cache.new.entries }
+{
+    a_snapshot_stands_for_what_lies_below();
+    each_change_leaves_the_caches_chains();
+    the_cache_says_what_lies_below();
+    what_leaves_the_caches_chains_leaves_the_entries();
+    chains.known();
+    match cache.snapshot(chains, key) {
+        Ok(Some(snap)) => read_snapshot(alloc, chains, snap),
+        Ok(None) => Ok(None),
+        Err(error) => Err(error),
+    }
+}
