@@ -15,7 +15,7 @@ use Rattle.rc_evict.specs.Lives.{is_cache}
 use Rattle.rc_memtable.specs.Partitions.{AreAsBefore}
 use Rattle.rc_entries.specs.Detached.{IsDetached}
 use Rattle.rc_entries.specs.Invalidated.{IsInvalidated, KeepsReaders}
-use Rattle.rc_footprint.specs.Footprint.{bytes_of}
+use Rattle.rc_footprint.specs.Footprint.{kind_bytes}
 use Rattle.rc_footprint.proofs.Leaving.{IsNoLarger, Leaves}
 use Rattle.rc_footprint.proofs.Numbered.{chain-here, changed-beside, changed-now, here-or-beside, none-is-none, there-or-not}
 use Rattle.rc_footprint.proofs.Sums.{added_by}
@@ -50,7 +50,7 @@ module _ (old new : Memory) (h : AreAlike old new) where
       (λ none. ap (added_by (weigh kind)) (h.absent id none) ∙ sym (ap (added_by (weigh kind)) none))
       (λ k there. (let n = h.there id k there in ap (added_by (weigh kind)) n.1 ∙ weigh-alike kind k n.0 n.2 ∙ sym (ap (added_by (weigh kind)) there)))
 
-  pub alike-bytes : (kind : ChainKind) → bytes_of kind new ≡ bytes_of kind old
+  pub alike-bytes : (kind : ChainKind) → kind_bytes kind new ≡ kind_bytes kind old
   alike-bytes kind = bytes-same kind old new (alike-at kind)
 
   pub alike-leaves : Leaves old new

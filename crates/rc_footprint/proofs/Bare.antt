@@ -20,7 +20,7 @@ use Rattle.rc_memory.specs.Room.{chain_bytes}
 use Rattle.rc_memory.specs.laws.Listing.{pos_decided}
 use Rattle.rc_memory.specs.laws.Recent.{there_at}
 use Rattle.rc_evict.specs.Lives.{is_cache}
-use Rattle.rc_footprint.specs.Footprint.{AreInUse, HaveOneVersion, NoUpdateStands, cache_bytes, cache_snapshots, is_of, snapshots_of}
+use Rattle.rc_footprint.specs.Footprint.{AreInUse, HaveOneVersion, NoUpdateStands, cache_bytes, cache_snapshots, is_chain_of, snapshots_of}
 use Rattle.rc_footprint.proofs.Weighed.{bytes-are, kind-or, weigh, weigh-cache, weigh-no-cache}
 use Rattle.rc_footprint.proofs.Sums.{added_by, sum-filter, sum-least, sum-times, through}
 
@@ -102,7 +102,7 @@ module _ (m : Memory) (rule : IsRecency m) (versions : (i j : ℕ) → OfVersion
 
   -- a snapshot of the cache
   abbrev pinning : KeptChain → ℕ
-  pinning = through (is_of Cache) snapshots_of
+  pinning = through (is_chain_of Cache) snapshots_of
 
   module _ (one : HaveOneVersion m) (used : AreInUse m) where
     few-at : (id : ℕ) (o : Option KeptChain) → chain_at m id ≡ o → added_by (weigh Cache) o ≤ added_by (λ k. 152 * pinning k) o
@@ -123,5 +123,5 @@ module _ (m : Memory) (rule : IsRecency m) (versions : (i j : ℕ) → OfVersion
       bytes-are Cache m,
       sum-least (weigh Cache) (λ k. 152 * pinning k) m.chains m.chains (λ id. few-at id (chain_at m id) refl),
       sum-times (λ k. 152 * pinning k) pinning (λ k. refl) (present m.chains),
-      sum-filter (is_of Cache) snapshots_of (present m.chains),
+      sum-filter (is_chain_of Cache) snapshots_of (present m.chains),
     )

@@ -8,15 +8,15 @@ use Rattle.rc_memory.specs.Kept.{present}
 use Rattle.rc_memory.specs.Memory.{KeptChain, Memory, chain_at}
 use Rattle.rc_memory.specs.Room.{chain_bytes}
 use Rattle.rc_evict.specs.Lives.{is_cache}
-use Rattle.rc_footprint.specs.Footprint.{IsLiveInChains, bytes_of, cache_bytes, is_of, memtable_bytes}
+use Rattle.rc_footprint.specs.Footprint.{IsLiveInChains, kind_bytes, cache_bytes, is_chain_of, memtable_bytes}
 use Rattle.rc_footprint.proofs.Sums.{added_by, sum-both, sum-filter, sum-least, through}
 
 -- what a chain adds to those of a kind
 abbrev pub weigh : ChainKind → KeptChain → ℕ
-weigh kind = through (is_of kind) chain_bytes
+weigh kind = through (is_chain_of kind) chain_bytes
 
-pub bytes-are : (kind : ChainKind) (m : Memory) → bytes_of kind m ≡ sum_by (weigh kind) (present m.chains)
-bytes-are kind m = sum-filter (is_of kind) chain_bytes (present m.chains)
+pub bytes-are : (kind : ChainKind) (m : Memory) → kind_bytes kind m ≡ sum_by (weigh kind) (present m.chains)
+bytes-are kind m = sum-filter (is_chain_of kind) chain_bytes (present m.chains)
 
 pub kind-or : (kind : ChainKind) → (kind ≡ Memtable) ⊎ (kind ≡ Cache)
 kind-or Memtable = inl refl
@@ -46,8 +46,8 @@ pub live-of-both : (m : Memory) → IsLiveInChains m → live_bytes m.region ≡
 live-of-both m live = omega (arith, live, sum-both chain_bytes (weigh Memtable) (weigh Cache) weigh-both (present m.chains), bytes-are Memtable m, bytes-are Cache m)
 
 -- by what stands at each number
-pub bytes-least : (kind : ChainKind) (old new : Memory) → ((id : ℕ) → added_by (weigh kind) (chain_at new id) ≤ added_by (weigh kind) (chain_at old id)) → bytes_of kind new ≤ bytes_of kind old
+pub bytes-least : (kind : ChainKind) (old new : Memory) → ((id : ℕ) → added_by (weigh kind) (chain_at new id) ≤ added_by (weigh kind) (chain_at old id)) → kind_bytes kind new ≤ kind_bytes kind old
 bytes-least kind old new h = omega (arith, bytes-are kind new, bytes-are kind old, sum-least (weigh kind) (weigh kind) new.chains old.chains h)
 
-pub bytes-same : (kind : ChainKind) (old new : Memory) → ((id : ℕ) → added_by (weigh kind) (chain_at new id) ≡ added_by (weigh kind) (chain_at old id)) → bytes_of kind new ≡ bytes_of kind old
+pub bytes-same : (kind : ChainKind) (old new : Memory) → ((id : ℕ) → added_by (weigh kind) (chain_at new id) ≡ added_by (weigh kind) (chain_at old id)) → kind_bytes kind new ≡ kind_bytes kind old
 bytes-same kind old new h = omega (arith, bytes-least kind old new (λ id. let e = h id in omega (arith, e)), bytes-least kind new old (λ id. let e = h id in omega (arith, e)))

@@ -1,6 +1,6 @@
 -- How many bytes of a region the chains of memtables take, and how many those of the row cache.
---     is_of             a chain is of a kind
---     bytes_of          how many bytes the chains of a kind take together: memtable_bytes, cache_bytes
+--     is_chain_of       a chain is of a kind
+--     kind_bytes        how many bytes the chains of a kind take together: memtable_bytes, cache_bytes
 --     IsLiveInChains    what is live is what all chains take
 --     HaveOneVersion    each chain of the cache has one version
 --     NoUpdateStands    no update stands in a chain of the cache
@@ -16,21 +16,21 @@ use Rattle.rc_memory.specs.Room.{chain_bytes}
 use Rattle.rc_evict.specs.Lives.{IsIdle, is_cache}
 
 -- whether a chain is of a kind
-abbrev pub is_of : ChainKind → KeptChain → Bool
-is_of Memtable k = not (is_cache k.chain.kind)
-is_of Cache k = is_cache k.chain.kind
+abbrev pub is_chain_of : ChainKind → KeptChain → Bool
+is_chain_of Memtable k = not (is_cache k.chain.kind)
+is_chain_of Cache k = is_cache k.chain.kind
 
 -- how many bytes the chains of a kind take together: their versions' heads, static rows and entries
-abbrev pub bytes_of : ChainKind → Memory → ℕ
-bytes_of kind m = sum_by chain_bytes (filter (is_of kind) (present m.chains))
+abbrev pub kind_bytes : ChainKind → Memory → ℕ
+kind_bytes kind m = sum_by chain_bytes (filter (is_chain_of kind) (present m.chains))
 
 -- how many bytes all memtables take: the sealed writes and the later ones, and chains that were let go and that readers pin
 abbrev pub memtable_bytes : Memory → ℕ
-memtable_bytes m = bytes_of Memtable m
+memtable_bytes m = kind_bytes Memtable m
 
 -- how many bytes the row cache takes, with the chains that are found by their keys no more
 abbrev pub cache_bytes : Memory → ℕ
-cache_bytes m = bytes_of Cache m
+cache_bytes m = kind_bytes Cache m
 
 -- what is live in the region is what all chains take
 abbrev pub IsLiveInChains : Memory → Type 0
@@ -54,4 +54,4 @@ snapshots_of k = length (present k.chain.pins)
 
 -- how many snapshots of chains of the cache are taken
 abbrev pub cache_snapshots : Memory → ℕ
-cache_snapshots m = sum_by snapshots_of (filter (is_of Cache) (present m.chains))
+cache_snapshots m = sum_by snapshots_of (filter (is_chain_of Cache) (present m.chains))

@@ -25,8 +25,8 @@ use Rattle.rc_filler.specs.Stands.{HasCacheSnapshot}
 use Rattle.rc_snapshots.specs.Seeing.{StillSees}
 use Rattle.rc_row_cache.specs.Saying.{Below, phase_pinned}
 use Rattle.rc_core.specs.Version.{Version}
-use Rattle.rc_lookup.specs.Known.{IsChainKnown, IsKnownWhole, IsSnapKnown}
-use Rattle.rc_lookup.specs.Looked.{IsFound, IsLookedUp, IsStreamOf}
+use Rattle.rc_lookup.specs.Known.{IsChainKnown, IsPartitionKnown, IsSnapKnown}
+use Rattle.rc_lookup.specs.Looked.{IsPartitionFound, IsLookedUp, IsStreamSaying}
 use Rattle.rc_lookup.specs.calls.Reading.{IsHeadSaid, without_snap}
 
 -- ---- lists and answers
@@ -133,7 +133,7 @@ module _ (s : Snap) (old mid : Memory) (taken : IsSnapshotTaken old mid s.chain 
       (λ ne. beside id ne ∙ e)
 
   -- its chain, of which it pins the newest version
-  pub found : (key : List ℕ) (entries : List (List ℕ × ℕ)) (below : Below) (t : Stream) → entry_number entries key ≡ Some s.chain → MayFill mid s.chain s.pin → IsStreamOf (below s.chain (phase_pinned h)) t → IsFound key entries below old t
+  pub found : (key : List ℕ) (entries : List (List ℕ × ℕ)) (below : Below) (t : Stream) → entry_number entries key ≡ Some s.chain → MayFill mid s.chain s.pin → IsStreamSaying (below s.chain (phase_pinned h)) t → IsPartitionFound key entries below old t
   found key entries below t entry may says =
       let k = was (chain_at old s.chain) refl in
       let same : h.chain.chain.versions ≡ k.0.chain.versions = ap (λ (q : KeptChain). q.chain.versions) (same_some h.chain (with_snapshot (snapshot_number k.0.chain) k.0) (sym h.there ∙ mid-here ∙ ap (option_map (λ (q : KeptChain). with_snapshot (snapshot_number q.chain) q)) k.1)) in
@@ -147,7 +147,7 @@ module _ (s : Snap) (old mid : Memory) (taken : IsSnapshotTaken old mid s.chain 
         there = k.1;
         cached = k.2;
         last = fills.newest ∙ ap length same;
-        says = subst (λ vs. IsStreamOf (below s.chain (phase_at vs h.number)) t) same says;
+        says = subst (λ vs. IsStreamSaying (below s.chain (phase_at vs h.number)) t) same says;
       }
 
   -- where all is known to the chain it is to the snapshot, which pins the newest version
@@ -160,8 +160,8 @@ module _ (s : Snap) (old mid : Memory) (taken : IsSnapshotTaken old mid s.chain 
       let versions : versions_seen mid s ≡ k.0.chain.versions =
       ap (λ o. versions_in o s.pin) h.there ∙ ap (versions_upto h.chain.chain.versions) h.pinned ∙ ap (λ n. take n h.chain.chain.versions) fills.newest ∙ take-all h.chain.chain.versions ∙ ap (λ (q : KeptChain). q.chain.versions) here in
       let kind : kind_seen mid s ≡ k.0.chain.kind = ap kind_in h.there ∙ ap (λ (q : KeptChain). q.chain.kind) here in
-      let all : IsKnownWhole k.0.chain.kind k.0.chain.versions = subst (λ (o : Option KeptChain). IsSomeAnd o (λ q. IsKnownWhole q.chain.kind q.chain.versions)) k.1 whole in
-      subst (λ q. IsKnownWhole q (versions_seen mid s)) (sym kind) (subst (IsKnownWhole k.0.chain.kind) (sym versions) all)
+      let all : IsPartitionKnown k.0.chain.kind k.0.chain.versions = subst (λ (o : Option KeptChain). IsSomeAnd o (λ q. IsPartitionKnown q.chain.kind q.chain.versions)) k.1 whole in
+      subst (λ q. IsPartitionKnown q (versions_seen mid s)) (sym kind) (subst (IsPartitionKnown k.0.chain.kind) (sym versions) all)
 
   pub looked : IsLookedUp old new
   looked = record {
@@ -176,7 +176,7 @@ module _ (s : Snap) (old mid : Memory) (taken : IsSnapshotTaken old mid s.chain 
 pub told-looked : (old now : Memory) → IsLookedUp (with_dropped [] old) now → IsLookedUp old now
 told-looked old now a = record { region = a.region; recency = a.recency; counts = a.counts; memtables = a.memtables; snapshots = record { alike = λ s on. (let x = a.snapshots.alike s on in record { pin = x.pin; versions = x.versions; kind = x.kind }); none_more = a.snapshots.none_more } }
 
-pub told-found : (key : List ℕ) (entries : List (List ℕ × ℕ)) (below : Below) (old : Memory) (t : Stream) → IsFound key entries below (with_dropped [] old) t → IsFound key entries below old t
+pub told-found : (key : List ℕ) (entries : List (List ℕ × ℕ)) (below : Below) (old : Memory) (t : Stream) → IsPartitionFound key entries below (with_dropped [] old) t → IsPartitionFound key entries below old t
 told-found key entries below old t a = record { chain = a.chain; kept = a.kept; newest = a.newest; entry = a.entry; there = a.there; cached = a.cached; last = a.last; says = a.says }
 
 -- what holds of each stream that may be found
@@ -186,7 +186,7 @@ if-found P Q (Ok (Some t)) f h = f t h
 if-found P Q (Err e) f h = tt
 
 -- what holds of it for each mutation that says what writes say
-pub all-found : (writes : List Mutation) (r : Result (Option Stream) AllocError) → ((said : Mutation) → IsMutation said → SameSource (said ∷ []) writes → IfOk r (λ o. IfSome o (λ t. t ≡ stream_of (fragments said)))) → IfOk r (λ o. IfSome o (IsStreamOf writes))
+pub all-found : (writes : List Mutation) (r : Result (Option Stream) AllocError) → ((said : Mutation) → IsMutation said → SameSource (said ∷ []) writes → IfOk r (λ o. IfSome o (λ t. t ≡ stream_of (fragments said)))) → IfOk r (λ o. IfSome o (IsStreamSaying writes))
 all-found writes (Ok None) f = tt
 all-found writes (Ok (Some t)) f = f
 all-found writes (Err e) f = tt

@@ -1,7 +1,7 @@
 -- What the row cache knows of a partition, whole.
---     IsKnownWhole    in versions all of the partition is known
---     IsChainKnown    so it is to a chain
---     IsSnapKnown     so it is to a snapshot
+--     IsPartitionKnown    in versions all of the partition is known
+--     IsChainKnown        so it is to a chain
+--     IsSnapKnown         so it is to a snapshot
 use Rattle.std.specs.Prelude.{ℕ, List, IsSomeAnd, IsTrue}
 use Rattle.rc_core.specs.Chain.{flagged}
 use Rattle.rc_core.specs.Continuity.{static_states}
@@ -14,14 +14,14 @@ use Rattle.rc_cacheread.specs.Passing.{IsKnownOver}
 use Rattle.rc_snapshots.specs.Streams.{first_position}
 
 -- all of the partition is known in versions: the static row, and each position, but for those inside a row
-pub record IsKnownWhole (kind : ChainKind) (versions : List Version) : Type 0 where
+pub record IsPartitionKnown (kind : ChainKind) (versions : List Version) : Type 0 where
   pub each : IsKnownOver (IsKnownAs kind versions) first_position end_position
   pub static_row : IsTrue (flagged kind (static_states versions))
 
 -- a chain is there, to whose newest version all of its partition is known
 abbrev pub IsChainKnown : Memory → ℕ → Type 0
-IsChainKnown m id = IsSomeAnd (chain_at m id) (λ k. IsKnownWhole k.chain.kind k.chain.versions)
+IsChainKnown m id = IsSomeAnd (chain_at m id) (λ k. IsPartitionKnown k.chain.kind k.chain.versions)
 
 -- all of its partition is known to a snapshot
 abbrev pub IsSnapKnown : Memory → Snap → Type 0
-IsSnapKnown m s = IsKnownWhole (kind_seen m s) (versions_seen m s)
+IsSnapKnown m s = IsPartitionKnown (kind_seen m s) (versions_seen m s)

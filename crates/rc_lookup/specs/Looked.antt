@@ -1,8 +1,8 @@
 -- What a partition is looked up as, and what that leaves.
---     IsCacheOver    the cache says what lies below it, which fits a schema
---     IsStreamOf     the stream of what writes say
---     IsFound        a partition that was found
---     IsLookedUp     what a look-up leaves of the chains
+--     IsCacheOver         the cache says what lies below it, which fits a schema
+--     IsStreamSaying      the stream of what writes say
+--     IsPartitionFound    a partition that was found
+--     IsLookedUp          what a look-up leaves of the chains
 use Rattle.std.specs.Prelude.{◌≡◌, ℕ, suc, All, IsTrue, List, [], ◌∷◌, Some, length}
 use Rattle.rc_schema.specs.SchemaValue.{SchemaValue, is_schema}
 use Rattle.rc_mutation.specs.declared.mutations.Mutation.{Mutation}
@@ -26,11 +26,11 @@ pub record IsCacheOver (S : ℕ) (schema : SchemaValue) (below : Below) (m : Mem
   pub says : CacheSays schema below m
 
 -- the stream of each mutation that says what writes say
-abbrev pub IsStreamOf : List Mutation → Stream → Type 0
-IsStreamOf writes t = (said : Mutation) → IsMutation said → SameSource (said ∷ []) writes → t ≡ stream_of (fragments said)
+abbrev pub IsStreamSaying : List Mutation → Stream → Type 0
+IsStreamSaying writes t = (said : Mutation) → IsMutation said → SameSource (said ∷ []) writes → t ≡ stream_of (fragments said)
 
 -- a key is that of an entry, whose chain is there, and this is the stream of what lies below its newest version
-pub record IsFound (key : List ℕ) (entries : List (List ℕ × ℕ)) (below : Below) (m : Memory) (t : Stream) : Type 0 where
+pub record IsPartitionFound (key : List ℕ) (entries : List (List ℕ × ℕ)) (below : Below) (m : Memory) (t : Stream) : Type 0 where
   pub chain : ℕ
   pub kept : KeptChain
   pub newest : ℕ
@@ -38,7 +38,7 @@ pub record IsFound (key : List ℕ) (entries : List (List ℕ × ℕ)) (below : 
   pub there : chain_at m chain ≡ Some kept
   pub cached : kept.chain.kind ≡ Cache
   pub last : suc newest ≡ length kept.chain.versions
-  pub says : IsStreamOf (below chain (phase_at kept.chain.versions newest)) t
+  pub says : IsStreamSaying (below chain (phase_at kept.chain.versions newest)) t
 
 -- no object moved, came or went, and no chain of a memtable changed; the snapshots are those that were there, and see what they saw
 pub record IsLookedUp (old new : Memory) : Type 0 where

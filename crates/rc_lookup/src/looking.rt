@@ -15,7 +15,7 @@ ghost use Rattle.rc_cached.specs.Below.{nothing_read};
 ghost use Rattle.rc_cached.specs.Streams.{IsOfCached};
 ghost use Rattle.rc_row_cache.specs.Saying.{Below, CacheSays};
 ghost use Rattle.rc_lookup.specs.Known.{IsChainKnown, IsSnapKnown};
-ghost use Rattle.rc_lookup.specs.Looked.{IsCacheOver, IsFound, IsLookedUp, IsStreamOf};
+ghost use Rattle.rc_lookup.specs.Looked.{IsCacheOver, IsPartitionFound, IsLookedUp, IsStreamSaying};
 ghost use Rattle.rc_lookup.specs.calls.Reading.{AllClustered, IsHeadSaid, IsPassable, without_snap};
 
 use crate::gathering::{gather, put_behind};
@@ -118,7 +118,7 @@ fn read_known<const S: usize>(
     requires known { IsKnownOver (Knows chains.old snap) first_position end_position }
     requires head { (writes : Sequence Mutation) → StandsForWrites S chains.old snap.chain snap.pin writes → IsHeadSaid writes head }
     ensures back { chains.new ≡ without_snap snap chains.old }
-    ensures says { (writes : Sequence Mutation) → StandsForWrites S chains.old snap.chain snap.pin writes → IfOk result (λ o. IfSome o (IsStreamOf writes)) }
+    ensures says { (writes : Sequence Mutation) → StandsForWrites S chains.old snap.chain snap.pin writes → IfOk result (λ o. IfSome o (IsStreamSaying writes)) }
     ensures some { IfOk result IsSome }
 {
     a_cached_stream_says_what_lies_below::<S>();
@@ -139,7 +139,7 @@ fn read_snapshot<const S: usize>(
     requires roomy { 8952 ≤ 7 * S / 8 }
     requires stands { (writes : Sequence Mutation) × StandsForWrites S chains.old snap.chain snap.pin writes }
     ensures back { chains.new ≡ without_snap snap chains.old }
-    ensures says { (writes : Sequence Mutation) → StandsForWrites S chains.old snap.chain snap.pin writes → IfOk result (λ o. IfSome o (IsStreamOf writes)) }
+    ensures says { (writes : Sequence Mutation) → StandsForWrites S chains.old snap.chain snap.pin writes → IfOk result (λ o. IfSome o (IsStreamSaying writes)) }
     ensures none { IfOk result (λ o. IfNone o (IsSnapKnown chains.old snap → ⊥)) }
 {
     match known_whole(alloc, chains, &snap) {
@@ -165,7 +165,7 @@ pub fn lookup<const S: usize>(
     requires entries { AreEntries cache.old.entries chains.old }
     requires roomy { 8952 ≤ 7 * S / 8 }
     requires over { (schema : SchemaValue) × (below : Below) × IsCacheOver S schema below chains.old }
-    ensures found { (schema : SchemaValue) (below : Below) → IsCacheOver S schema below chains.old → IfOk result (λ o. IfSome o (IsFound key.now cache.old.entries below chains.old)) }
+    ensures found { (schema : SchemaValue) (below : Below) → IsCacheOver S schema below chains.old → IfOk result (λ o. IfSome o (IsPartitionFound key.now cache.old.entries below chains.old)) }
     ensures known { (id : ℕ) → entry_number cache.old.entries key.now ≡ Some id → IsChainKnown chains.old id → IfOk result IsSome }
     ensures left { IsLookedUp chains.old chains.new }
     ensures says { (schema : SchemaValue) (below : Below) → CacheSays schema below chains.old → CacheSays schema below chains.new }

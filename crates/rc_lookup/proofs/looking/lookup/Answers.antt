@@ -10,8 +10,8 @@ use Rattle.rc_schema.specs.SchemaValue.{SchemaValue}
 use Rattle.std.specs.Prelude.{◌≡◌, None, Option, IfNone, IsSomeAnd}
 use Rattle.rc_memory.specs.Memory.{KeptChain}
 use Rattle.rc_entries.specs.Found.{entry_number}
-use Rattle.rc_lookup.specs.Known.{IsChainKnown, IsKnownWhole, IsSnapKnown}
-use Rattle.rc_lookup.specs.Looked.{IsFound, IsLookedUp, IsStreamOf}
+use Rattle.rc_lookup.specs.Known.{IsChainKnown, IsPartitionKnown, IsSnapKnown}
+use Rattle.rc_lookup.specs.Looked.{IsPartitionFound, IsLookedUp, IsStreamSaying}
 use Rattle.rc_lookup.proofs.Kept.{found, is-some, none-there, same-number, snap-known, if-found, looked, same-source, told-found, told-looked}
 use Rattle.rc_lookup.proofs.looking.lookup.Goals as goal
 
@@ -37,7 +37,7 @@ returns-in-Ok-Some-clause-found g c = λ schema below over.
     let may = subst (λ r. IfOk r (λ o. IfSome o (λ (x : Snap). (schema : SchemaValue) (below : Below) → CacheSays schema below c.args.chains.now → MayFill c.snapshot.new.chains x.chain x.pin))) (c.in-Ok-Some.is ∙ ap Ok c.in-Ok-Some.field-0-is) c.snapshot.ensures.may schema below over.says in
     let entry = (c.snapshot.ensures.forgotten.left c.args.key.now s.chain taken.entry).0 in
     let stands = c.a_snapshot_stands_for_what_lies_below.ensures.there g.row.S schema below mid s.chain s.pin h writes over.limits over.small (over.fits s.chain (phase_pinned h)) says (same-source writes) in
-    if-found (IsStreamOf writes) (IsFound c.args.key.now c.args.cache.now.entries below old) c.read_snapshot.result
+    if-found (IsStreamSaying writes) (IsPartitionFound c.args.key.now c.args.cache.now.entries below old) c.read_snapshot.result
     (λ t is. told-found c.args.key.now c.args.cache.now.entries below old t (found s (with_dropped [] old) mid taken.taken h c.args.key.now c.args.cache.now.entries below t entry may is)) (c.read_snapshot.ensures.says writes stands)
 
 pub returns-in-Ok-Some-clause-left : goal.returns-in-Ok-Some-clause-left
@@ -70,5 +70,5 @@ pub returns-in-Ok-None-clause-known : goal.returns-in-Ok-None-clause-known
 returns-in-Ok-None-clause-known g c = λ id entry whole.
     let old = c.args.chains.now in
     let absent = subst (λ r. IfOk r (λ o. IfNone o ((entry_number c.snapshot.new.self.entries c.args.key.now ≡ None) × (c.snapshot.new.chains ≡ with_dropped [] old)))) (c.in-Ok-None.is ∙ ap Ok c.in-Ok-None.field-0-is) c.snapshot.ensures.absent in
-    let stays = c.snapshot.ensures.forgotten.stays c.args.key.now id entry (λ told. subst (λ (o : Option KeptChain). IsSomeAnd o (λ q. IsKnownWhole q.chain.kind q.chain.versions)) (c.known.ensures.told id told) whole) in
+    let stays = c.snapshot.ensures.forgotten.stays c.args.key.now id entry (λ told. subst (λ (o : Option KeptChain). IsSomeAnd o (λ q. IsPartitionKnown q.chain.kind q.chain.versions)) (c.known.ensures.told id told) whole) in
     absurd (none-there id (sym absent.0 ∙ stays))
