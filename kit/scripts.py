@@ -180,6 +180,14 @@ def flushes(make):
     return {}, [lines]
 
 
+def cached(make):
+    """Partitions in tables, read again and again, while objects are evicted and others are written and flushed."""
+    lines = [make.first, *make.writes(40), "flush"]
+    for _ in range(make.rng.randint(5, 30)):
+        lines += make.one([make.reads, make.reads, lambda: [f"evict {make.rng.randint(1, 9)}"], lambda: [make.write(), "flush"], lambda: make.writes(3), lambda: [make.reader()]])()
+    return {}, [lines + make.reads()]
+
+
 def later(make):
     """Several runs in one folder; what was not flushed is gone, and another schema ends the last run."""
     runs = []
@@ -248,7 +256,7 @@ def tables(make):
     return files, [[make.first, *make.reads(), *make.writes(5), "flush", *make.reads()]]
 
 
-PROFILES = {it.__name__: it for it in (writes, ties, pauses, flushes, later, refusals, bounds, limits, blocks, tables)}
+PROFILES = {it.__name__: it for it in (writes, ties, pauses, flushes, cached, later, refusals, bounds, limits, blocks, tables)}
 
 
 def case(profile, seed):

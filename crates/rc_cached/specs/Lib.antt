@@ -2,3 +2,15 @@ pub mod Below
 pub mod Fillers
 pub mod Leaving
 pub mod Streams
+pub use Rattle.rc_filler.specs.Fills
+pub use Rattle.rc_filler.specs.Stands
+pub use Rattle.rc_filler.specs.declared.fillers.CacheFiller
+pub use Rattle.rc_filler.specs.calls.Coming
+pub use Rattle.rc_filler.specs.Lives
+pub use Rattle.rc_filler.specs.Evictions
+pub use Rattle.rc_filler.specs.Writes
+pub use Rattle.rc_filler.specs.LetGo
+pub use Rattle.rc_populate.specs.Filling
+pub use Rattle.rc_populate.specs.laws.Opening
+pub use Rattle.rc_filler.specs.NoMore
+pub use Rattle.rc_filler.specs.Partitions

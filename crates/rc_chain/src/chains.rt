@@ -18,6 +18,7 @@ ghost use Rattle.rc_memory.specs.Recency.{IsRecency, MayBeListed, MustBeListed};
 ghost use Rattle.rc_memory.specs.Changes.{Nowhere, OfVersion, StandStill};
 ghost use Rattle.rc_memory.specs.laws.One.{memory-prop};
 ghost use Rattle.rc_version.specs.Versions.{IsVersionOf};
+ghost use Rattle.rc_recency.specs.laws.Held.{IsStandingAs};
 ghost use Rattle.rc_chain.specs.Held.{IsHeldAt};
 ghost use Rattle.rc_chain.specs.Marked.{HasMarksAt};
 
@@ -130,6 +131,13 @@ impl<const S: usize> Chains<S> {
     /// The object of each version of a chain is that version in the region, with the objects of its entries in their order: so these can be walked. It does nothing.
     pub fn versions_stand(&self)
         ensures { (id j : ℕ) (n : Name) → IsVersionObject self.now id j n → OfVersion self.now id j (λ k v. (refs : Sequence Name) × IsVersionOf self.now.region n refs v) }
+    {
+        let _ = &self.region;
+    }
+
+    /// The objects of a version's entries, in whose order it stands in the region, are those that stand at its places, whatever the recency list is: so each object that a walk comes to has a place. It does nothing.
+    pub fn places_stand(&self)
+        ensures { (id j : ℕ) (n : Name) → IsVersionObject self.now id j n → OfVersion self.now id j (λ k v. (s : IsStandingAs self.now.standing id j v n) × IsVersionOf self.now.region n s.entries v) }
     {
         let _ = &self.region;
     }

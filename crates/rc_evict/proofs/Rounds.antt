@@ -141,14 +141,14 @@ pub if-some : {A : Type 0} (P : A → Type 0) (o : Option A) → is_some o ≡ t
 if-some P None e h = absurd (cc e)
 if-some P (Some x) e h = (x, h)
 
-one_budget : (sort : Evicted) (old new : Memory) → IsOneEvicted sort old new → length new.region.usages ≡ length old.region.usages
+pub one_budget : (sort : Evicted) (old new : Memory) → IsOneEvicted sort old new → length new.region.usages ≡ length old.region.usages
 one_budget sort old new e =
     let k = some-of (λ k. MayBeListed k.chain e.place.version e.place.position) (chain_at old e.place.chain) e.taken.listed in elim (e.swept k.0 k.1) [
       | inl gone ↦ gone.1.region.budget ∙ e.taken.changed.region.budget
       | inr stays ↦ ap (λ (m : Memory). length m.region.usages) stays.1 ∙ e.taken.changed.region.budget
     ]
 
-one_moved : (sort : Evicted) (old new : Memory) → IsOneEvicted sort old new → new.region.moved ≡ old.region.moved
+pub one_moved : (sort : Evicted) (old new : Memory) → IsOneEvicted sort old new → new.region.moved ≡ old.region.moved
 one_moved sort old new e =
     let k = some-of (λ k. MayBeListed k.chain e.place.version e.place.position) (chain_at old e.place.chain) e.taken.listed in elim (e.swept k.0 k.1) [
       | inl gone ↦ gone.1.region.moved ∙ e.taken.changed.region.moved

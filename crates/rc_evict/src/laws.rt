@@ -25,9 +25,10 @@ pub fn an_evicted_object_leaves_a_version()
     ensures phase { (at : Option Pos) (v : Version) → (evicted_at at v).phase ≡ v.phase }
 {}
 
-/// One eviction is one of several; none are where objects moved alone; and those that follow others are with these the evictions of all.
+/// One eviction is one of several, and leaves the number of segments and of moves; none are where objects moved alone; and those that follow others are with these the evictions of all.
 pub fn evictions_follow_one_another()
     ensures one { (sort : Evicted) (old new : Memory) (e : IsOneEvicted sort old new) → (gone : List ℕ) × AreEvicted (e.place ∷ []) gone old new }
+    ensures region { (sort : Evicted) (old new : Memory) → IsOneEvicted sort old new → (length new.region.usages ≡ length old.region.usages) × (new.region.moved ≡ old.region.moved) }
     ensures none { (old new : Memory) → IsUntouched old new → AreEvicted [] [] old new }
     ensures both { (went more : List Member) (gone others : List ℕ) (old mid new : Memory) → AreEvicted went gone old mid → AreEvicted more others mid new → AreEvicted (went ++ more) (gone ++ others) old new }
 {}

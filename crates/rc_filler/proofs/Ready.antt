@@ -34,7 +34,7 @@ use Rattle.rc_filler.specs.Stands.{HasCacheSnapshot, HoldsRowsOf, StandsForWrite
 use Rattle.rc_filler.specs.Fills.{IsPortionFilled, OfGap, OfRow, OfStatics}
 use Rattle.rc_filler.proofs.Entries.{each-map, entries-all, newest-each, split-each, versions-all}
 use Rattle.rc_filler.proofs.FromSource.{row-of, static-of}
-use Rattle.rc_filler.proofs.Listed.{come-bounds, come-given, come-renewed}
+use Rattle.rc_filler.proofs.Listed.{come-bounds, come-given, come-renewed, stay-bounds, stay-given, stay-renewed}
 use Rattle.rc_filler.proofs.Seen.{pins-there}
 use Rattle.rc_filler.proofs.OfSchema.{entry-small, fit-together, joined-rows, static-rows, static-small}
 
@@ -145,6 +145,8 @@ module _ (m n : Memory) (id pin : ℕ) (h : HasCacheSnapshot m id pin) (may : Ma
     filled = wider (gap_filled from to tomb) Nowhere (λ w no. absurd no) (at_pinned (λ k j v. IsFilled id (gap_filled from to tomb) Nowhere m n) filled);
     listed = come-bounds id h.chain.chain.kind pinned_version.0 (member id h.number (Some from)) (member id h.number (Some to)) m.recency n.recency refl refl
         (at_pinned (λ k j v. AreBoundsListed k.chain.kind v (member id j (Some from)) (member id j (Some to)) m.recency n.recency) listed);
+    stay = stay-bounds h.chain.chain.kind pinned_version.0 (member id h.number (Some from)) (member id h.number (Some to)) m.recency n.recency
+        (at_pinned (λ k j v. AreBoundsListed k.chain.kind v (member id j (Some from)) (member id j (Some to)) m.recency n.recency) listed);
   }
 
   pub row-filled : (key : List Comp) (row : Row) (tomb : Option Tomb) → row ≢ empty_row → OfPinned m id pin (λ k j v. IsFilled id (row_filled (row_pos key) row tomb) (AtAlone (member id j (Some (row_pos key)))) m n) →
@@ -157,6 +159,7 @@ module _ (m n : Memory) (id pin : ℕ) (h : HasCacheSnapshot m id pin) (may : Ma
         (at_pinned (λ k j v. IsFilled id (row_filled (row_pos key) row tomb) (AtAlone (member id j (Some (row_pos key)))) m n) filled);
     listed = come-renewed id (member id h.number (Some (row_pos key))) refl h.chain.chain.kind m.recency n.recency
         (at_pinned (λ k j v. IsRenewed k.chain.kind (member id j (Some (row_pos key))) m.recency n.recency) listed);
+    stay = stay-renewed (member id h.number (Some (row_pos key))) h.chain.chain.kind m.recency n.recency (at_pinned (λ k j v. IsRenewed k.chain.kind (member id j (Some (row_pos key))) m.recency n.recency) listed);
   }
 
   pub static-filled : (row : Row) → OfPinned m id pin (λ k j v. IsFilled id (fill_statics (given row)) (AtAlone (member id j None)) m n) →
@@ -169,4 +172,5 @@ module _ (m n : Memory) (id pin : ℕ) (h : HasCacheSnapshot m id pin) (may : Ma
         (at_pinned (λ k j v. IsFilled id (fill_statics (given row)) (AtAlone (member id j None)) m n) filled);
     listed = come-given id (member id h.number None) refl h.chain.chain.kind (given row) m.recency n.recency
         (at_pinned (λ k j v. IsGivenListed k.chain.kind (given row) (member id j None) m.recency n.recency) listed);
+    stay = stay-given (member id h.number None) h.chain.chain.kind (given row) m.recency n.recency (at_pinned (λ k j v. IsGivenListed k.chain.kind (given row) (member id j None) m.recency n.recency) listed);
   }

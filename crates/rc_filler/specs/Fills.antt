@@ -65,13 +65,14 @@ IsUnfit (OfStatics row) = ⊥
 abbrev pub IsSkippedFor : ℕ → Portion → Memory → Type 0
 IsSkippedFor S portion m = IsOutOfRoom S m ⊎ IsUnfit portion
 
--- a portion was filled into the newest version of a cache chain, which this snapshot pins; in the recency list came nothing but objects of that chain
+-- a portion was filled into the newest version of a cache chain, which this snapshot pins; in the recency list came nothing but objects of that chain, and nothing went out of it
 pub record IsPortionFilled (portion : Portion) (id pin : ℕ) (old new : Memory) : Type 0 where
   pub snapshot : HasCacheSnapshot old id pin
   pub may : MayFill old id pin
   pub whole : IsPortion portion
   pub filled : IsFilled id (filled_with portion) (λ w. w.chain ≡ id) old new
   pub listed : (w : Member) → Contains new.recency w → Contains old.recency w ⊎ (w.chain ≡ id)
+  pub stay : (w : Member) → Contains old.recency w → Contains new.recency w
 
 -- one more skipped fill is counted, and nothing else is changed
 abbrev pub IsSkipCounted : Memory → Memory → Type 0

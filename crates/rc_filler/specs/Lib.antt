@@ -2,3 +2,11 @@ pub mod Stands
 pub mod Fillers
 pub mod Fills
 pub mod calls
+pub use Rattle.rc_evict.specs.Evictions
+pub use Rattle.rc_evict.specs.Lives
+pub use Rattle.rc_evict.specs.Snap
+pub use Rattle.rc_memtable.specs.LetGo
+pub use Rattle.rc_memtable.specs.Writes
+pub use Rattle.rc_memtable.specs.Steps
+pub use Rattle.rc_memtable.specs.Partitions
+pub use Rattle.rc_memtable.specs.laws.NoMore

@@ -10,3 +10,5 @@ mod taking;
 
 pub use fillers::CacheFiller;
 pub use opening::open_with_room;
+pub use rc_chain::{Chains, ReadHead, Snap, laws as chain_laws};
+pub use rc_populate::{laws as populate_laws, static_need};

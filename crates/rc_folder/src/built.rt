@@ -5,15 +5,12 @@ ghost use Rattle.rc_machine.specs.Built.{is_built};
 
 use rc_lines::Command;
 
-/// Whether a command is served: all but those of a flush in steps, of evictions and of cleaning.
+/// Whether a command is served: all but those of a flush in steps and of cleaning.
 pub fn is_built(command: &Command) -> bool
     ensures { result ≡ is_built command.now }
 {
     match command {
-        Command::FlushBegin
-        | Command::FlushStep { .. }
-        | Command::Evict { .. }
-        | Command::Clean { .. } => false,
+        Command::FlushBegin | Command::FlushStep { .. } | Command::Clean { .. } => false,
         Command::Nothing
         | Command::SetSchema(_)
         | Command::Put(_)
@@ -21,6 +18,7 @@ pub fn is_built(command: &Command) -> bool
         | Command::Read { .. }
         | Command::Close { .. }
         | Command::Flush
+        | Command::Evict { .. }
         | Command::Compact { .. }
         | Command::Stats => true,
     }

@@ -12,7 +12,7 @@ ghost use Rattle.rc_tfile.specs.Info.{info_of};
 ghost use Rattle.rc_tfile.specs.Items.{IsItem};
 ghost use Rattle.rc_tfile.specs.Stored.{OnWriteFault};
 ghost use Rattle.rc_tfile.specs.TableText.{PartsFit, whole_table};
-ghost use Rattle.rc_tables.specs.Tables.{IsDamageOf, listing};
+ghost use Rattle.rc_tables.specs.Tables.{IsDamageOf, IsSomeJoin, listing};
 ghost use Rattle.rc_machine.specs.State.{State, Table};
 ghost use Rattle.rc_machine.specs.Tables.{AreListed, AreTables};
 ghost use Rattle.rc_machine.specs.Standing.{IsOver};
@@ -71,8 +71,9 @@ impl Folder {
     }
 
     /// What the tables say of the partition of a key, joined: for each state of the machine over these tables, something that they say
-    /// there. `StreamErr::Fault` comes when the store fails, `StreamErr::Damaged` where bytes that were read of a file contradict the table
-    /// that is known, `StreamErr::NoMemory` when memory is refused.
+    /// there; of each table that lists the key at most one change that a table of the schema can hold. `StreamErr::Fault` comes when the store
+    /// fails, `StreamErr::Damaged` where bytes that were read of a file contradict the table that is known, `StreamErr::NoMemory` when memory
+    /// is refused.
     pub fn read<W: Store>(
         &self,
         alloc: Global,
@@ -83,6 +84,7 @@ impl Folder {
         ensures said { (m : State) → IsOver (W.files store.old) self.now.schema self.now.infos m
             → IfOk result (λ change. (said : List Mutation) × IsSaid m key.now said × IsJoinOf change said) }
         ensures mutation { IfOk result IsMutation }
+        ensures some { IfOk result (IsSomeJoin self.now.schema self.now.infos key.now) }
         ensures damaged { IfErr result (IsDamageOf self.now.schema key.now self.now.infos) }
         ensures cause { Caused result (W.files store.old) (W.faults store.old) (W.faults store.new) }
         ensures store { HoldsSameFiles W.files W.building store.old store.new }

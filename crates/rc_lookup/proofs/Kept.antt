@@ -1,8 +1,9 @@
 -- What is left where a snapshot was taken and taken back.
 use Rattle.std.proofs.Common.{inl, inr, ◌≡◌, ◌≢◌, ◌⊎◌, ℕ, zero, suc, List, [], ◌∷◌, Option, Some, None, IsSome, refl, sym, ap, ◌∙◌, subst, slice_index_or, arith}
 use Rattle.std.specs.Option.{option_map}
-use Rattle.std.specs.Prelude.{Err, IfNone, IfOk, IfSome, IsSomeAnd, Ok, Result, length, take}
+use Rattle.std.specs.Prelude.{Contains, Err, IfNone, IfOk, IfSome, IsSomeAnd, Ok, Result, length, take}
 use Rattle.std.specs.declared.alloc.AllocError.{AllocError}
+use Rattle.lsa_region.specs.Region.{SameObjects, View}
 use Rattle.rc_core.specs.declared.entries.ChainKind.TheVariants.{Cache, Memtable}
 use Rattle.rc_position.specs.Position.{Head}
 use Rattle.rc_mutation.specs.declared.mutations.Mutation.{Mutation}
@@ -11,22 +12,25 @@ use Rattle.rc_mutation.specs.Fragments.{fragments}
 use Rattle.rc_mutation.specs.Source.{IsMutation, SameSource, source_at_head, source_at_static}
 use Rattle.rc_core.specs.Chains.{at_place, phase_at}
 use Rattle.rc_core.specs.Steps.{MayPopulate, free_number, pin_at}
-use Rattle.rc_core.specs.laws.Pins.{pin-freed, pin-kept, pin-others, pin-was-free}
-use Rattle.rc_memory.specs.Memory.{HasPin, IsSnapshotTaken, KeptChain, Memory, chain_at, on_chain, snapshot_number, with_dropped, with_snapshot, without_snapshot}
+use Rattle.rc_core.specs.laws.Pins.{pin-freed, pin-is-pinned, pin-kept, pin-others, pin-was-free, pinned-by-number}
+use Rattle.rc_memory.specs.Changes.{member}
+use Rattle.rc_memory.specs.Memory.{HasChain, HasPin, IsSnapshotTaken, KeptChain, Memory, chain_at, on_chain, snapshot_number, with_dropped, with_snapshot, without_snapshot}
 use Rattle.rc_memory.specs.laws.Places.{same_some}
 use Rattle.rc_memory.specs.laws.Put.{put-at, put-beside}
 use Rattle.rc_chain.specs.declared.chains.Snap.{Snap}
-use Rattle.rc_populate.specs.Filling.{MayFill}
+use Rattle.rc_cached.specs.Lives.{IsIdle}
+use Rattle.rc_cached.specs.Filling.{MayFill}
 use Rattle.rc_stream.specs.Stream.{Stream, stream_of}
-use Rattle.rc_populate.specs.laws.Opening.{some-and}
+use Rattle.rc_cached.specs.Opening.{some-and}
 use Rattle.rc_cursor.specs.Snapshots.{kind_in, kind_seen, versions_in, versions_seen, versions_upto}
-use Rattle.rc_entries.specs.Found.{entry_number}
-use Rattle.rc_filler.specs.Stands.{HasCacheSnapshot}
+use Rattle.rc_row_cache.specs.Found.{entry_number}
+use Rattle.rc_cached.specs.Stands.{HasCacheSnapshot}
 use Rattle.rc_snapshots.specs.Seeing.{StillSees}
 use Rattle.rc_row_cache.specs.Saying.{Below, phase_pinned}
 use Rattle.rc_core.specs.Version.{Version}
+use Rattle.rc_row_cache.specs.Footprint.{AreInUse}
 use Rattle.rc_lookup.specs.Known.{IsChainKnown, IsPartitionKnown, IsSnapKnown}
-use Rattle.rc_lookup.specs.Looked.{IsPartitionFound, IsLookedUp, IsStreamSaying}
+use Rattle.rc_lookup.specs.Looked.{IsPartitionFound, IsLookedUp, IsStreamSaying, IsUnread}
 use Rattle.rc_lookup.specs.calls.Reading.{IsHeadSaid, without_snap}
 
 -- ---- lists and answers
@@ -64,6 +68,10 @@ module _ (old new : Memory) (id : ℕ) (f : KeptChain → KeptChain) (is : new.c
 
   pub at-beside : (i : ℕ) → (i ≡ id → ⊥) → chain_at new i ≡ chain_at old i
   at-beside i ne = ap (λ cs. slice_index_or cs i None) is ∙ put-beside old.chains id (option_map f (chain_at old id)) i ne
+
+-- a region that is as it was
+pub unchanged : (v : View) → SameObjects v v
+unchanged v = record { bodies = λ r. refl; ends = λ e there. there; gone = λ e there. there; spots = λ r. refl; slots = refl; usages = refl; epoch = refl; moved = refl; compacted = refl }
 
 -- ---- a snapshot more, and then it is taken back
 
@@ -163,18 +171,63 @@ module _ (s : Snap) (old mid : Memory) (taken : IsSnapshotTaken old mid s.chain 
       let all : IsPartitionKnown k.0.chain.kind k.0.chain.versions = subst (λ (o : Option KeptChain). IsSomeAnd o (λ q. IsPartitionKnown q.chain.kind q.chain.versions)) k.1 whole in
       subst (λ q. IsPartitionKnown q (versions_seen mid s)) (sym kind) (subst (IsPartitionKnown k.0.chain.kind) (sym versions) all)
 
+  -- and where all is known to the snapshot it is to the chain, once that is taken back
+  pub chain-known : MayFill mid s.chain s.pin → IsSnapKnown mid s → IsChainKnown new s.chain
+  chain-known may whole =
+      let k = was (chain_at old s.chain) refl in
+      let now : h.chain ≡ with_snapshot (snapshot_number k.0.chain) k.0 = same_some h.chain (with_snapshot (snapshot_number k.0.chain) k.0) (sym h.there ∙ mid-here ∙ ap (option_map (λ (q : KeptChain). with_snapshot (snapshot_number q.chain) q)) k.1) in
+      let fills : MayPopulate (at_place Head h.chain.chain) h.number =
+      subst (λ (o : Option ℕ). IsSomeAnd o (MayPopulate (at_place Head h.chain.chain))) h.pinned (subst (λ (o : Option KeptChain). IsSomeAnd o (λ q. IsSomeAnd (pin_at q.chain.pins s.pin) (MayPopulate (at_place Head q.chain)))) h.there may) in
+      let versions : versions_seen mid s ≡ k.0.chain.versions =
+      ap (λ o. versions_in o s.pin) h.there ∙ ap (versions_upto h.chain.chain.versions) h.pinned ∙ ap (λ n. take n h.chain.chain.versions) fills.newest ∙ take-all h.chain.chain.versions ∙ ap (λ (q : KeptChain). q.chain.versions) now in
+      let kind : kind_seen mid s ≡ k.0.chain.kind = ap kind_in h.there ∙ ap (λ (q : KeptChain). q.chain.kind) now in
+      let all : IsPartitionKnown k.0.chain.kind k.0.chain.versions = subst (λ q. IsPartitionKnown q k.0.chain.versions) kind (subst (IsPartitionKnown (kind_seen mid s)) versions whole) in
+      subst (λ (o : Option KeptChain). IsSomeAnd o (λ q. IsPartitionKnown q.chain.kind q.chain.versions)) (sym (here k.0 k.1)) all
+
+  -- its chain is to be dropped only if it was before
+  was-idle : (id : ℕ) (n : KeptChain) → chain_at new id ≡ Some n → IsIdle new id n.chain → (k : KeptChain) × (chain_at old id ≡ Some k) × IsIdle old id k.chain
+  was-idle id n e idle = here-or-beside s.chain id
+      (λ same. (let k = was (chain_at old s.chain) refl in
+      let there = ap (chain_at old) same ∙ k.1 in
+      let now : n ≡ passed_by s.pin k.0 = same_some n (passed_by s.pin k.0) (sym e ∙ ap (chain_at new) same ∙ here k.0 k.1) in
+      let left = subst (λ (q : KeptChain). IsIdle new id q.chain) now idle in (
+        k.0,
+        there,
+        record {
+          cached = left.cached;
+          settled = left.settled;
+          unpinned = λ j on. (let p = pinned-by-number k.0.chain.pins j on in left.unpinned j (pin-is-pinned (passed_by s.pin k.0).chain.pins p.0 j (same-pins k.0 s.pin p.0 (number k.0 k.1) ∙ p.1)));
+          unlisted = λ j at on. left.unlisted j at (subst (λ l. Contains l (member id j at)) (sym (ap (λ (m : Memory). m.recency) taken.now)) on);
+        },
+      )))
+      (λ ne. (
+        n,
+        sym (beside id ne) ∙ e,
+        record {
+          cached = idle.cached;
+          settled = idle.settled;
+          unpinned = idle.unpinned;
+          unlisted = λ j at on. idle.unlisted j at (subst (λ l. Contains l (member id j at)) (sym (ap (λ (m : Memory). m.recency) taken.now)) on);
+        },
+      ))
+
+  pub back-used : AreInUse old → AreInUse new
+  back-used used id n e idle = let k = was-idle id n e idle in used id k.0 k.1 k.2
+
   pub looked : IsLookedUp old new
   looked = record {
-    region = ap (λ (m : Memory). m.region) taken.now;
-    recency = ap (λ (m : Memory). m.recency) taken.now;
+    region = subst (SameObjects old.region) (sym (ap (λ (m : Memory). m.region) taken.now)) (unchanged old.region);
     counts = ap (λ (m : Memory). m.counts) taken.now;
     memtables = memtable;
     snapshots = record { alike = alike; none_more = none-more };
   }
 
+  pub unread : IsUnread old new
+  unread = record { region = ap (λ (m : Memory). m.region) taken.now; recency = ap (λ (m : Memory). m.recency) taken.now }
+
 -- numbers that were told change nothing of this
 pub told-looked : (old now : Memory) → IsLookedUp (with_dropped [] old) now → IsLookedUp old now
-told-looked old now a = record { region = a.region; recency = a.recency; counts = a.counts; memtables = a.memtables; snapshots = record { alike = λ s on. (let x = a.snapshots.alike s on in record { pin = x.pin; versions = x.versions; kind = x.kind }); none_more = a.snapshots.none_more } }
+told-looked old now a = record { region = a.region; counts = a.counts; memtables = a.memtables; snapshots = record { alike = λ s on. (let x = a.snapshots.alike s on in record { pin = x.pin; versions = x.versions; kind = x.kind }); none_more = a.snapshots.none_more } }
 
 pub told-found : (key : List ℕ) (entries : List (List ℕ × ℕ)) (below : Below) (old : Memory) (t : Stream) → IsPartitionFound key entries below (with_dropped [] old) t → IsPartitionFound key entries below old t
 told-found key entries below old t a = record { chain = a.chain; kept = a.kept; newest = a.newest; entry = a.entry; there = a.there; cached = a.cached; last = a.last; says = a.says }
@@ -184,6 +237,12 @@ pub if-found : (P Q : Stream → Type 0) (r : Result (Option Stream) AllocError)
 if-found P Q (Ok None) f h = tt
 if-found P Q (Ok (Some t)) f h = f t h
 if-found P Q (Err e) f h = tt
+
+-- what holds anyway holds where one is found
+pub where-found : (P : Type 0) (r : Result (Option Stream) AllocError) → P → IfOk r (λ o. IfSome o (λ t. P))
+where-found P (Ok None) h = tt
+where-found P (Ok (Some t)) h = h
+where-found P (Err e) h = tt
 
 -- what holds of it for each mutation that says what writes say
 pub all-found : (writes : List Mutation) (r : Result (Option Stream) AllocError) → ((said : Mutation) → IsMutation said → SameSource (said ∷ []) writes → IfOk r (λ o. IfSome o (λ t. t ≡ stream_of (fragments said)))) → IfOk r (λ o. IfSome o (IsStreamSaying writes))
@@ -208,4 +267,8 @@ pub same-source : (writes : List Mutation) → SameSource writes writes
 same-source writes = record { head = refl; statics = refl; clustered = λ x. refl }
 
 pub looked-none : (old : Memory) → IsLookedUp old old
-looked-none old = record { region = refl; recency = refl; counts = refl; memtables = λ id k e kind. e; snapshots = record { alike = λ s on. record { pin = on; versions = refl; kind = refl }; none_more = λ s on. on } }
+looked-none old = record { region = unchanged old.region; counts = refl; memtables = λ id k e kind. e; snapshots = record { alike = λ s on. record { pin = on; versions = refl; kind = refl }; none_more = λ s on. on } }
+
+-- its chain is there still, once it is taken back
+pub still-there : (s : Snap) (m : Memory) → HasCacheSnapshot m s.chain s.pin → HasChain (without_snap s m) s.chain
+still-there s m h = subst (λ (o : Option KeptChain). IsSome o) (sym (at-here m (without_snap s m) s.chain (without_snapshot s.pin) refl ∙ ap (option_map (without_snapshot s.pin)) h.there)) refl

@@ -2,3 +2,16 @@ mod Orders
 mod Over
 mod Gathered
 mod Kept
+mod Fills
+mod Said
+mod Numbered
+mod Rest
+mod Counted
+mod Turns
+mod Entered
+mod Swept
+mod Statics
+mod Leaving
+mod Recent
+mod Walked
+mod Reordered

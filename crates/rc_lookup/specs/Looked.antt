@@ -3,7 +3,9 @@
 --     IsStreamSaying      the stream of what writes say
 --     IsPartitionFound    a partition that was found
 --     IsLookedUp          what a look-up leaves of the chains
+--     IsUnread            and of the recency list, where it gives nothing
 use Rattle.std.specs.Prelude.{◌≡◌, ℕ, suc, All, IsTrue, List, [], ◌∷◌, Some, length}
+use Rattle.lsa_region.specs.Region.{SameObjects}
 use Rattle.rc_schema.specs.SchemaValue.{SchemaValue, is_schema}
 use Rattle.rc_mutation.specs.declared.mutations.Mutation.{Mutation}
 use Rattle.rc_mutation.specs.Fragments.{fragments}
@@ -12,8 +14,8 @@ use Rattle.rc_writes.specs.Allowed.{ChangeFits}
 use Rattle.rc_core.specs.declared.entries.ChainKind.TheVariants.{Cache, Memtable}
 use Rattle.rc_core.specs.Chains.{phase_at}
 use Rattle.rc_memory.specs.Memory.{KeptChain, Memory, chain_at}
-use Rattle.rc_memtable.specs.Writes.{AreSmall}
-use Rattle.rc_entries.specs.Found.{entry_number}
+use Rattle.rc_cached.specs.Writes.{AreSmall}
+use Rattle.rc_row_cache.specs.Found.{entry_number}
 use Rattle.rc_stream.specs.Stream.{Stream, stream_of}
 use Rattle.rc_snapshots.specs.Seeing.{AreSameSnapshots}
 use Rattle.rc_row_cache.specs.Saying.{Below, CacheSays}
@@ -42,8 +44,12 @@ pub record IsPartitionFound (key : List ℕ) (entries : List (List ℕ × ℕ)) 
 
 -- no object moved, came or went, and no chain of a memtable changed; the snapshots are those that were there, and see what they saw
 pub record IsLookedUp (old new : Memory) : Type 0 where
-  pub region : new.region ≡ old.region
-  pub recency : new.recency ≡ old.recency
+  pub region : SameObjects old.region new.region
   pub counts : new.counts ≡ old.counts
   pub memtables : (id : ℕ) (k : KeptChain) → chain_at old id ≡ Some k → k.chain.kind ≡ Memtable → chain_at new id ≡ Some k
   pub snapshots : AreSameSnapshots old new
+
+-- nor did a place in the recency list change
+pub record IsUnread (old new : Memory) : Type 0 where
+  pub region : new.region ≡ old.region
+  pub recency : new.recency ≡ old.recency

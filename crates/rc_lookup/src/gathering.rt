@@ -13,9 +13,9 @@ use rc_cached::laws::{
     a_cached_stream_leaves_what_others_see, a_cached_stream_misses_only_what_is_not_known,
 };
 use rc_cached::{CachedStream, Readings};
-use rc_chain::Chains;
 use rc_mutation::Frag;
 use rc_position::{Pos, Weight};
+use rc_row_cache::Chains;
 use rc_stream::{Frags, StreamErr};
 use std::alloc::{AllocError, Global};
 

@@ -7,20 +7,20 @@ ghost use Rattle.rc_reading.specs.Reading.{IsRowGiven};
 ghost use Rattle.rc_memory.specs.Memory.{HasPin};
 ghost use Rattle.rc_cursor.specs.Snapshots.{IsHeadSeen, IsReadable, Knows};
 ghost use Rattle.rc_cacheread.specs.Passing.{IsKnownOver};
-ghost use Rattle.rc_filler.specs.Stands.{StandsForWrites};
+ghost use Rattle.rc_cached.specs.Stands.{StandsForWrites};
 ghost use Rattle.rc_snapshots.specs.Streams.{first_position};
 ghost use Rattle.rc_lookup.specs.Known.{IsSnapKnown};
 ghost use Rattle.rc_lookup.specs.calls.Reading.{IsHeadSaid};
 
 use crate::places::bare;
 use rc_cell::Row;
-use rc_chain::{Chains, ReadHead, Snap};
 use rc_core::Part;
 use rc_cursor::Cursor;
 use rc_cursor::laws::a_snapshot_sees_up_to_its_version;
-use rc_filler::laws::a_snapshot_knows_the_writes_it_stands_for;
 use rc_mutation::Head;
 use rc_position::{Pos, Weight};
+use rc_row_cache::filler_laws::a_snapshot_knows_the_writes_it_stands_for;
+use rc_row_cache::{Chains, ReadHead, Snap};
 use std::alloc::{AllocError, Global};
 
 // What stands next to a place in a snapshot.
@@ -125,6 +125,7 @@ pub(crate) fn known_whole<const S: usize>(
 ) -> Result<Option<Head>, AllocError>
     requires { (writes : List Mutation) × StandsForWrites S chains.now snap.now.chain snap.now.pin writes }
     ensures known { IfOk result (λ o. IfSome o (λ _. IsKnownOver (Knows chains.now snap.now) first_position end_position)) }
+    ensures whole { IfOk result (λ o. IfSome o (λ _. IsSnapKnown chains.now snap.now)) }
     ensures none { IfOk result (λ o. IfNone o (IsSnapKnown chains.now snap.now → ⊥)) }
     ensures head { (writes : List Mutation) → StandsForWrites S chains.now snap.now.chain snap.now.pin writes → IfOk result (λ o. IfSome o (IsHeadSaid writes)) }
 {

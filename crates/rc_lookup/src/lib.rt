@@ -1,9 +1,17 @@
-//! A partition looked up in the row cache, whole.
+//! A partition looked up in the row cache, whole, and put into it.
 #![tactic(auto)]
 
+mod filling;
 mod gathering;
 mod knowing;
 mod looking;
 mod places;
+mod populating;
+mod touching;
 
 pub use looking::lookup;
+pub use populating::populate;
+pub use rc_row_cache::{
+    Chains, RowCache, Unstored, entries_laws, evict_laws, footprint, laws as row_cache_laws,
+    snapshots_laws, unstored_laws,
+};

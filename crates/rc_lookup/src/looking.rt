@@ -1,36 +1,41 @@
 //! A partition looked up, whole.
-ghost use Rattle.std.specs.Prelude.{◌≡◌, ◌*◌, ◌/◌, ◌≤◌, ◌∷◌, ◌++◌, ℕ, [], None, Some, List as Sequence, IfNone, IfOk, IfSome, IsSome, OnOk};
+ghost use Rattle.std.specs.Prelude.{◌≡◌, ◌*◌, ◌/◌, ◌≤◌, ◌∷◌, ◌++◌, ℕ, [], None, Some, List as Sequence, IfNone, IfOk, IfSome, IsSome, IsSomeAnd, OnErr, OnOk};
 ghost use Rattle.rc_schema.specs.SchemaValue.{SchemaValue};
 ghost use Rattle.rc_mutation.specs.declared.mutations.Mutation.{Mutation};
 ghost use Rattle.rc_core.specs.Version.{end_position};
 ghost use Rattle.rc_chain.specs.declared.chains.Snap.{Snap as Snapshot};
-ghost use Rattle.rc_entries.specs.Found.{IsForgotten, entry_number};
-ghost use Rattle.rc_entries.specs.Entries.{AreEntries};
+ghost use Rattle.rc_row_cache.specs.Found.{IsForgotten, entry_number};
+ghost use Rattle.rc_row_cache.specs.Entries.{AreEntries};
 ghost use Rattle.rc_cursor.specs.Snapshots.{Knows};
 ghost use Rattle.rc_cacheread.specs.Passing.{IsKnownOver};
-ghost use Rattle.rc_filler.specs.Stands.{StandsForWrites};
+ghost use Rattle.rc_cached.specs.Stands.{StandsForWrites};
 ghost use Rattle.rc_stream.specs.Stream.{Stream};
 ghost use Rattle.rc_snapshots.specs.Streams.{first_position};
 ghost use Rattle.rc_cached.specs.Below.{nothing_read};
 ghost use Rattle.rc_cached.specs.Streams.{IsOfCached};
 ghost use Rattle.rc_row_cache.specs.Saying.{Below, CacheSays};
 ghost use Rattle.rc_lookup.specs.Known.{IsChainKnown, IsSnapKnown};
-ghost use Rattle.rc_lookup.specs.Looked.{IsCacheOver, IsPartitionFound, IsLookedUp, IsStreamSaying};
+ghost use Rattle.rc_lookup.specs.Rest.{LeavesRest};
+ghost use Rattle.rc_lookup.specs.Touched.{IsMadeRecent, IsReordered};
+ghost use Rattle.rc_lookup.specs.Looked.{IsCacheOver, IsPartitionFound, IsLookedUp, IsStreamSaying, IsUnread};
 ghost use Rattle.rc_lookup.specs.calls.Reading.{AllClustered, IsHeadSaid, IsPassable, without_snap};
 
 use crate::gathering::{gather, put_behind};
 use crate::knowing::known_whole;
+use crate::touching::touch_all;
 use rc_cached::laws::a_cached_stream_says_what_lies_below;
 use rc_cached::{CachedStream, Readings, cached_stream};
-use rc_chain::{Chains, Snap};
-use rc_entries::laws::{
-    each_change_leaves_the_caches_chains, what_leaves_the_caches_chains_leaves_the_entries,
-};
 use rc_mutation::{Frag, FragList, Head};
 use rc_position::PartKey;
-use rc_row_cache::RowCache;
+use rc_row_cache::entries_laws::{
+    each_change_leaves_the_caches_chains, what_leaves_the_caches_chains_leaves_the_entries,
+};
+use rc_row_cache::footprint::{
+    each_chain_of_the_cache_has_one_version, what_calls_leave_of_memtables,
+};
 use rc_row_cache::laws::{a_snapshot_stands_for_what_lies_below, the_cache_says_what_lies_below};
-use rc_snapshots::laws::a_mutations_stream_reads_it;
+use rc_row_cache::snapshots_laws::a_mutations_stream_reads_it;
+use rc_row_cache::{Chains, RowCache, Snap};
 use rc_stream::{Frags, ListFrags};
 use std::alloc::{AllocError, Global};
 
@@ -140,6 +145,7 @@ fn read_snapshot<const S: usize>(
     requires stands { (writes : Sequence Mutation) × StandsForWrites S chains.old snap.chain snap.pin writes }
     ensures back { chains.new ≡ without_snap snap chains.old }
     ensures says { (writes : Sequence Mutation) → StandsForWrites S chains.old snap.chain snap.pin writes → IfOk result (λ o. IfSome o (IsStreamSaying writes)) }
+    ensures whole { IfOk result (λ o. IfSome o (λ _. IsSnapKnown chains.old snap)) }
     ensures none { IfOk result (λ o. IfNone o (IsSnapKnown chains.old snap → ⊥)) }
 {
     match known_whole(alloc, chains, &snap) {
@@ -155,7 +161,34 @@ fn read_snapshot<const S: usize>(
     }
 }
 
-/// What the tables say of a partition, where the row cache knows all of it: as the stream of its fragments, from the beginning. None where the partition is not in the cache, or something of it is not known. Entries whose chains are gone are forgotten. The only error is want of memory.
+// What a snapshot says, where all of it is known: then all of its chain is the most recent. None where something of it is not. It is taken back.
+fn read_recent<const S: usize>(
+    alloc: Global,
+    chains: &mut Chains<S>,
+    snap: Snap,
+) -> Result<Option<ListFrags>, AllocError>
+    requires roomy { 8952 ≤ 7 * S / 8 }
+    requires stands { (writes : Sequence Mutation) × StandsForWrites S chains.old snap.chain snap.pin writes }
+    ensures back { IsReordered (without_snap snap chains.old) chains.new }
+    ensures hit { IfOk result (λ o. IfSome o (λ _. IsMadeRecent snap.chain chains.old.recency chains.new.recency)) }
+    ensures missed { IfOk result (λ o. IfNone o (chains.new ≡ without_snap snap chains.old)) }
+    ensures err { OnErr result (chains.new ≡ without_snap snap chains.old) }
+    ensures says { (writes : Sequence Mutation) → StandsForWrites S chains.old snap.chain snap.pin writes → IfOk result (λ o. IfSome o (IsStreamSaying writes)) }
+    ensures whole { IfOk result (λ o. IfSome o (λ _. IsSnapKnown chains.old snap)) }
+    ensures none { IfOk result (λ o. IfNone o (IsSnapKnown chains.old snap → ⊥)) }
+{
+    let chain = snap.chain;
+    match read_snapshot(alloc, chains, snap) {
+        Ok(Some(list)) => {
+            touch_all(chains, chain);
+            Ok(Some(list))
+        }
+        Ok(None) => Ok(None),
+        Err(error) => Err(error),
+    }
+}
+
+/// What the tables say of a partition, where the row cache knows all of it, which it does afterwards too: as the stream of its fragments, from the beginning. Then its objects are the most recent ones of the cache. None where the partition is not in the cache, or something of it is not known. Entries whose chains are gone are forgotten. The only error is want of memory.
 pub fn lookup<const S: usize>(
     alloc: Global,
     cache: &mut RowCache,
@@ -167,7 +200,12 @@ pub fn lookup<const S: usize>(
     requires over { (schema : SchemaValue) × (below : Below) × IsCacheOver S schema below chains.old }
     ensures found { (schema : SchemaValue) (below : Below) → IsCacheOver S schema below chains.old → IfOk result (λ o. IfSome o (IsPartitionFound key.now cache.old.entries below chains.old)) }
     ensures known { (id : ℕ) → entry_number cache.old.entries key.now ≡ Some id → IsChainKnown chains.old id → IfOk result IsSome }
+    ensures whole { IfOk result (λ o. IfSome o (λ _. IsSomeAnd (entry_number cache.new.entries key.now) (IsChainKnown chains.new))) }
     ensures left { IsLookedUp chains.old chains.new }
+    ensures hit { IfOk result (λ o. IfSome o (λ _. IsSomeAnd (entry_number cache.new.entries key.now) (λ id. IsMadeRecent id chains.old.recency chains.new.recency))) }
+    ensures missed { IfOk result (λ o. IfNone o (IsUnread chains.old chains.new)) }
+    ensures err { OnErr result (IsUnread chains.old chains.new) }
+    ensures rest { LeavesRest chains.old chains.new }
     ensures says { (schema : SchemaValue) (below : Below) → CacheSays schema below chains.old → CacheSays schema below chains.new }
     ensures entries { AreEntries cache.new.entries chains.new }
     ensures forgotten { IsForgotten chains.old.dropped cache.old.entries cache.new.entries }
@@ -176,9 +214,11 @@ pub fn lookup<const S: usize>(
     each_change_leaves_the_caches_chains();
     the_cache_says_what_lies_below();
     what_leaves_the_caches_chains_leaves_the_entries();
+    each_chain_of_the_cache_has_one_version();
+    what_calls_leave_of_memtables();
     chains.known();
     match cache.snapshot(chains, key) {
-        Ok(Some(snap)) => read_snapshot(alloc, chains, snap),
+        Ok(Some(snap)) => read_recent(alloc, chains, snap),
         Ok(None) => Ok(None),
         Err(error) => Err(error),
     }

@@ -1,11 +1,12 @@
 -- How chains are kept: a table of their use, their versions in the region, and the list through these.
 --     AreKept       the chains are those of a table, and of versions at the root slots that it names
+--     IsLiveInChains     what is live is what all chains take
 --     IsSoundChain       what each chain keeps: snapshots pin versions that it has, and nobody pins the one under update
 --     HoldMemory        region, list, table and counts hold this memory
 --     IsMemory      and it keeps its rules
-use Rattle.std.specs.Prelude.{◌≡◌, ◌<◌, ◌≤◌, ◌+◌, ℕ, suc, true, List, [], ◌∷◌, Option, Some, None, IfSome, length, map, ⊤}
+use Rattle.std.specs.Prelude.{◌≡◌, ◌<◌, ◌≤◌, ◌+◌, ℕ, suc, true, List, [], ◌∷◌, Option, Some, None, IfSome, length, map, sum_by, ⊤}
 use Rattle.lsa_store.specs.declared.place.Ref.{Ref}
-use Rattle.lsa_region.specs.Region.{View, slots_of, IsWell}
+use Rattle.lsa_region.specs.Region.{View, slots_of, IsWell, live_bytes}
 use Rattle.rc_partition.specs.List.{List as Slots}
 use Rattle.rc_registry.specs.ChainKind.TheVariants.{Cache}
 use Rattle.rc_registry.specs.Chains.{Shown, IsPinned}
@@ -15,7 +16,7 @@ use Rattle.rc_registry.specs.Registry.{Registry}
 use Rattle.rc_memory.specs.declared.counts.Counts.{Counts}
 use Rattle.rc_memory.specs.Memory.{KeptChain, Member, Memory, IsObjectAt, chain_at}
 use Rattle.rc_memory.specs.Recency.{IsRecency}
-use Rattle.rc_memory.specs.Room.{ChainsFit}
+use Rattle.rc_memory.specs.Room.{ChainsFit, chain_bytes}
 
 -- the chain of a use and of versions
 abbrev pub chain_of_use : Use → PartitionEntry → KeptChain
@@ -45,6 +46,10 @@ abbrev pub present : {X : Type 0} → List (Option X) → List X
 present [] = []
 present (None ∷ xs) = present xs
 present (Some x ∷ xs) = x ∷ present xs
+
+-- what is live in the region is what all chains take
+abbrev pub IsLiveInChains : Memory → Type 0
+IsLiveInChains m = live_bytes m.region ≡ sum_by chain_bytes (present m.chains)
 
 -- each object stands at the place beside it
 abbrev pub StandAt : View → List (Option PartitionEntry) → List Ref → List Member → Type 0

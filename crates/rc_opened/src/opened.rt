@@ -3,8 +3,10 @@ ghost use Rattle.std.specs.Prelude.{◌≡◌, ◌++◌, ◌∷◌, [], ℕ, Lis
 ghost use Rattle.rc_query.specs.declared.lines.OutLine.{OutLine as Line};
 ghost use Rattle.rc_query.specs.Answer.{answer};
 ghost use Rattle.rc_mutation.specs.declared.mutations.Mutation.{Mutation as Change};
+ghost use Rattle.rc_mutation.specs.Fragments.{fragments};
 ghost use Rattle.rc_mutation.specs.Source.{IsJoinOf, IsMutation};
 ghost use Rattle.rc_schema.specs.SchemaValue.{SchemaValue};
+ghost use Rattle.rc_stream.specs.Stream.{stream_of};
 ghost use Rattle.rc_snapshots.specs.Seeing.{SeesAllOf};
 ghost use Rattle.rc_opened.specs.Opened.{AreChangesOf, AreSources, left_behind, snaps_in, snaps_of};
 
@@ -12,7 +14,6 @@ use crate::no_files::NoFiles;
 use crate::opening::new_sources_say_what_was_written;
 use crate::written::Written;
 use rc_chain::Chains;
-use rc_mutation::Mutation;
 use rc_position::Slice;
 use rc_query::Lines;
 use rc_reader::Reader;
@@ -44,35 +45,27 @@ impl<const S: usize> Leaves<Chains<S>> for Opened {
 }
 
 impl Opened {
-    /// A reader from the beginning of a slice on, of a partition of which the tables said this, with snapshots of what is sealed of it and of what is written since. The only error is want of memory: then the snapshots are given back.
+    /// A reader from the beginning of a slice on, of a partition of which the tables said this, which is the stream of a mutation from its beginning, with snapshots of what is sealed of it and of what is written since. The only error is want of memory: then the snapshots are given back.
     pub fn open<const S: usize>(
         alloc: Global,
         chains: &mut Chains<S>,
         snaps: Snaps,
-        tables: &Mutation,
+        tables: ListFrags,
         slice: &Slice,
     ) -> Result<Self, (Snaps, AllocError)>
-        requires { (writes : List Change) × (later : List Change) × SeesAllOf writes chains.old snaps.sealed × SeesAllOf later chains.old snaps.active }
-        ensures gives { (schema : SchemaValue) (said writes later : List Change) → IsJoinOf tables.now said → AreChangesOf schema writes → AreChangesOf schema later → SeesAllOf writes chains.old snaps.sealed → SeesAllOf later chains.old snaps.active →
+        requires sees { (writes : List Change) × (later : List Change) × SeesAllOf writes chains.old snaps.sealed × SeesAllOf later chains.old snaps.active }
+        requires whole { (tabled : Change) × IsMutation tabled × (tables ≡ stream_of (fragments tabled)) }
+        ensures gives { (schema : SchemaValue) (tabled : Change) (said writes later : List Change) → IsMutation tabled → tables ≡ stream_of (fragments tabled) → IsJoinOf tabled said → AreChangesOf schema writes → AreChangesOf schema later → SeesAllOf writes chains.old snaps.sealed → SeesAllOf later chains.old snaps.active →
             IfOk result (λ o. ⟦<Opened as Leaves<Chains<S>>>⟧.lines o chains.new (answer (said ++ (writes ++ later)) slice.now)) }
         ensures snaps { IfOk result (λ o. snaps_of o ≡ snaps) }
         ensures back { IfErr result (λ e. e.0 ≡ snaps) }
         ensures chains { chains.new ≡ chains.old }
     {
         new_sources_say_what_was_written::<S>();
-        tables.holds_together();
-        match sources(alloc, snaps, tables) {
-            Ok(stream) => match Reader::open(
-                alloc,
-                stream,
-                slice,
-                chains,
-                &mut NoFiles { begun: false },
-            ) {
-                Ok(reader) => Ok(Opened { reader }),
-                Err((stream, _)) => Err((given_back(stream), AllocError)),
-            },
-            Err(refused) => Err(refused),
+        let stream = sources(alloc, snaps, tables);
+        match Reader::open(alloc, stream, slice, chains, &mut NoFiles { begun: false }) {
+            Ok(reader) => Ok(Opened { reader }),
+            Err((stream, _)) => Err((given_back(stream), AllocError)),
         }
     }
 
@@ -109,19 +102,13 @@ impl Opened {
     }
 }
 
-// What a reader reads, from the beginning of its partition. The only error is want of memory.
-fn sources(alloc: Global, snaps: Snaps, tables: &Mutation) -> Result<Sources, (Snaps, AllocError)>
-    ensures made { IfOk result (AreSources tables.now snaps) }
-    ensures back { IfErr result (λ e. e.0 ≡ snaps) }
+// What a reader reads, from the beginning of its partition.
+fn sources(alloc: Global, snaps: Snaps, tables: ListFrags) -> Sources
+    ensures { (tabled : Change) → tables ≡ stream_of (fragments tabled) → AreSources tabled snaps result }
 {
-    match tables.fragments(alloc) {
-        Ok(list) => {
-            let Snaps { sealed, active } = snaps;
-            let written = Merge::new(Written::new(alloc, sealed), Written::new(alloc, active));
-            Ok(Merge::new(ListFrags::new(list), written))
-        }
-        Err(error) => Err((snaps, error)),
-    }
+    let Snaps { sealed, active } = snaps;
+    let written = Merge::new(Written::new(alloc, sealed), Written::new(alloc, active));
+    Merge::new(tables, written)
 }
 
 // The snapshots of what was read.

@@ -158,12 +158,11 @@ impl Plain {
             Command::Read { id, count } => self.read(alloc, *id, *count),
             Command::Close { id } => Ok(self.close_reader(*id)),
             Command::Flush => self.flush(alloc, store),
-            Command::Compact { .. } => Ok(Reply::Fine),
+            Command::Evict { .. } | Command::Compact { .. } => Ok(Reply::Fine),
             Command::Stats => Ok(Reply::Stats(self.figures(store))),
-            Command::FlushBegin
-            | Command::FlushStep { .. }
-            | Command::Evict { .. }
-            | Command::Clean { .. } => unreachable!(),
+            Command::FlushBegin | Command::FlushStep { .. } | Command::Clean { .. } => {
+                unreachable!()
+            }
         }
     }
 

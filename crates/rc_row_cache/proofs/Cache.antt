@@ -15,10 +15,10 @@ use Rattle.rc_core.specs.Chains.{IsChainContinuous, Shown, at_place, phase_at, p
 use Rattle.rc_core.specs.Steps.{IsChain, pin_at}
 use Rattle.rc_memory.specs.Memory.{KeptChain, Member, Memory, chain_at, on_chain, on_shown, shown_detached}
 use Rattle.rc_memory.specs.laws.Places.{same_some}
-use Rattle.rc_memtable.specs.Writes.{AreSmall}
+use Rattle.rc_filler.specs.Writes.{AreSmall}
 use Rattle.rc_chain.specs.Lives.{IsChainDropped}
-use Rattle.rc_evict.specs.Evictions.{AreEvicted, evicted_of}
-use Rattle.rc_populate.specs.Filling.{IsEntryOpened, chain_opened, given}
+use Rattle.rc_filler.specs.Evictions.{AreEvicted, evicted_of}
+use Rattle.rc_entries.specs.Filling.{IsEntryOpened, chain_opened, given}
 use Rattle.rc_entries.specs.Detached.{IsDetached}
 use Rattle.rc_filler.specs.Stands.{HasCacheSnapshot, StandsForWrites}
 use Rattle.rc_row_cache.specs.Saying.{Below, CacheSays, PinsAlike, SaysBelow, phase_pinned, with_below}

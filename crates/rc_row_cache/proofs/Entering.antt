@@ -2,7 +2,7 @@
 use Rattle.std.proofs.Common.{inl, inr, ◌≡◌, ◌≢◌, ℕ, Bool, true, false, cond, List, Option, Some, None, refl, sym, ap, ◌∙◌, subst, slice_index_or}
 use Rattle.std.specs.BTreeMap.{insert_entry}
 use Rattle.std.specs.Cmp.{eq_by_cmp_equiv}
-use Rattle.std.specs.Prelude.{Err, IfNone, IfOk, IfSome, IsSome, Ok, Result}
+use Rattle.std.specs.Prelude.{Err, IfNone, IfOk, IfSome, IsSome, Ok, OnErr, Result}
 use Rattle.std.specs.Ordering.{eq_by_cmp, is_eq}
 use Rattle.std.specs.declared.cmp.Ordering.{Ordering}
 use Rattle.std.specs.declared.cmp.Ordering.TheVariants.{Less, Equal, Greater}
@@ -15,8 +15,8 @@ use Rattle.rc_core.specs.Steps.{pin_at}
 use Rattle.rc_registry.specs.Registry.{IsNumberIn}
 use Rattle.rc_memory.specs.Memory.{IsSnapshotTaken, Memory, chain_at, snapshot_number}
 use Rattle.rc_chain.specs.declared.chains.Snap.{Snap}
-use Rattle.rc_populate.specs.Filling.{IsEntryOpened, MayFill, chain_opened}
-use Rattle.rc_populate.specs.laws.Filled.{may-fill}
+use Rattle.rc_entries.specs.Filling.{IsEntryOpened, MayFill, chain_opened}
+use Rattle.rc_entries.specs.Filled.{may-fill}
 use Rattle.rc_entries.specs.Entries.{AreEntries, AreSettled, IsCached}
 use Rattle.rc_entries.specs.Found.{entry_number}
 use Rattle.rc_snapshots.specs.Seeing.{NothingIsLost}
@@ -96,6 +96,10 @@ module _ {X E : Type 0} where
   if-some (Ok None) P Q f h = h
   if-some (Ok (Some x)) P Q f h = f x h
   if-some (Err e) P Q f h = h
+
+  pub on-err : (r : Result X E) (P Q : Type 0) → (P → Q) → OnErr r P → OnErr r Q
+  on-err (Ok x) P Q f h = h
+  on-err (Err e) P Q f h = f h
 
   pub if-none : (r : Result (Option X) E) (P : Type 0) → IfOk r IsSome → IfOk r (λ o. IfNone o P)
   if-none (Ok None) P h = absurd (cc)

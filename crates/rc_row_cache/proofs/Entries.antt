@@ -6,7 +6,7 @@ use Rattle.rc_partition.specs.laws.Lists.{elem-cases, elem-first, elem-later, el
 use Rattle.rc_registry.specs.Registry.{IsNumberIn}
 use Rattle.rc_registry.specs.laws.Numbers.{IsOneOf-back, IsOneOf-front, IsOneOf-parts}
 use Rattle.rc_memory.specs.Memory.{KeptChain, Member, Memory, chain_at}
-use Rattle.rc_evict.specs.Evictions.{AreEvicted, evicted_of}
+use Rattle.rc_filler.specs.Evictions.{AreEvicted, evicted_of}
 use Rattle.rc_entries.specs.Entries.{IsUsedAlike, LeavesCached}
 use Rattle.rc_row_cache.proofs.Numbered.{among-or}
 

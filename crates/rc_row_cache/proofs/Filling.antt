@@ -17,8 +17,8 @@ use Rattle.rc_core.specs.Version.{IsVersion, Version, end_position}
 use Rattle.rc_core.specs.laws.Losing.{each-one}
 use Rattle.rc_core.specs.laws.Updating.{relabelled}
 use Rattle.rc_memory.specs.Memory.{KeptChain, Member, on_shown, on_version_of}
-use Rattle.rc_evict.specs.Evictions.{evicted_at, evicted_of}
-use Rattle.rc_populate.specs.Filling.{given, on_newest_of}
+use Rattle.rc_filler.specs.Evictions.{evicted_at, evicted_of}
+use Rattle.rc_entries.specs.Filling.{given, on_newest_of}
 use Rattle.rc_filler.specs.Stands.{HoldsRowsOf}
 use Rattle.rc_filler.specs.Fills.{IsPortion, OfGap, OfRow, OfStatics, Portion, filled_with}
 use Rattle.rc_row_cache.specs.Saying.{SaysBelow}

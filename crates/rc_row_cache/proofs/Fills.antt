@@ -16,8 +16,8 @@ use Rattle.rc_core.specs.laws.Updating.{relabelled}
 use Rattle.rc_memory.specs.Memory.{KeptChain, Member, Memory, chain_at, on_shown}
 use Rattle.rc_memory.specs.laws.Places.{same_some}
 use Rattle.rc_chain.specs.laws.Numbered.{pinned-continuous}
-use Rattle.rc_evict.specs.Evictions.{AreEvicted, IsRoomMade, evicted_of}
-use Rattle.rc_populate.specs.Filling.{MayFill, on_newest_of}
+use Rattle.rc_filler.specs.Evictions.{AreEvicted, IsRoomMade, evicted_of}
+use Rattle.rc_entries.specs.Filling.{MayFill, on_newest_of}
 use Rattle.rc_stream.specs.Did.{StepsInTurn}
 use Rattle.rc_filler.specs.Fills.{IsFillDone, IsPortionFilled, Portion, filled_with}
 use Rattle.rc_filler.specs.Stands.{HoldsRowsOf, StandsForWrites}

@@ -13,3 +13,16 @@ pub mod Entries
 pub mod Taking
 pub mod Entering
 pub mod Seeing
+mod Sums
+mod Weighed
+mod Bare
+mod Evicted
+mod Leaving
+mod Alike
+mod Calls
+mod Cached
+mod Used
+mod Putting
+mod Going
+mod Spared
+mod Ways

@@ -26,11 +26,11 @@ use Rattle.rc_memory.specs.laws.Places.{same_some}
 use Rattle.rc_chain.specs.laws.PlaceBeside.{beside-none}
 use Rattle.rc_chain.specs.declared.chains.Snap.{Snap}
 use Rattle.rc_cursor.specs.Snapshots.{kind_in, kind_seen}
-use Rattle.rc_memtable.specs.LetGo.{AreLetGo, IsFreedUnpinned, IsLetGo}
-use Rattle.rc_memtable.specs.Partitions.{AreAsBefore, IsAsBefore}
-use Rattle.rc_memtable.specs.Steps.{IsApplied}
-use Rattle.rc_memtable.specs.Writes.{DoAscend, HasWrites, chain_of}
-use Rattle.rc_populate.specs.laws.Opening.{some-and}
+use Rattle.rc_filler.specs.LetGo.{AreLetGo, IsFreedUnpinned, IsLetGo}
+use Rattle.rc_filler.specs.Partitions.{AreAsBefore, IsAsBefore}
+use Rattle.rc_filler.specs.Steps.{IsApplied}
+use Rattle.rc_filler.specs.Writes.{DoAscend, HasWrites, chain_of}
+use Rattle.rc_entries.specs.Opening.{some-and}
 use Rattle.rc_snapshots.specs.Seeing.{HasSnap}
 use Rattle.rc_filler.specs.Stands.{HoldsRowsOf}
 use Rattle.rc_unstored.specs.declared.unstored.Unstored.{Unstored}

@@ -35,8 +35,8 @@ use Rattle.rc_core.specs.Version.{Ascend, IsVersion, On, Version, end_position, 
 use Rattle.rc_core.specs.laws.Filling.{content-known, flagged-known}
 use Rattle.rc_core.specs.laws.Surgery.{seen-on}
 use Rattle.rc_core.specs.laws.Units.{nothing_first}
-use Rattle.rc_evict.specs.Evictions.{evicted_at}
-use Rattle.rc_populate.specs.Filling.{given}
+use Rattle.rc_filler.specs.Evictions.{evicted_at}
+use Rattle.rc_entries.specs.Filling.{given}
 use Rattle.rc_filler.specs.Stands.{HasRowOf, HoldsRowsOf}
 use Rattle.rc_filler.specs.Fills.{IsPortion, OfGap, OfRow, OfStatics, Portion, filled_with}
 use Rattle.rc_row_cache.proofs.Lists.{each-map, last-gap-each, split-each, taken-each}

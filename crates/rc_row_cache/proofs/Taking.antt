@@ -9,9 +9,9 @@ use Rattle.rc_memory.specs.Memory.{HasPin, IsSnapshotTaken, KeptChain, Memory, c
 use Rattle.rc_memory.specs.laws.Places.{same_some}
 use Rattle.rc_chain.specs.declared.chains.Snap.{Snap}
 use Rattle.rc_chain.specs.laws.PlaceBeside.{beside-none}
-use Rattle.rc_populate.specs.Filling.{MayFill}
-use Rattle.rc_populate.specs.laws.Filled.{may-fill}
-use Rattle.rc_populate.specs.laws.Opening.{some-and}
+use Rattle.rc_entries.specs.Filling.{MayFill}
+use Rattle.rc_entries.specs.Filled.{may-fill}
+use Rattle.rc_entries.specs.Opening.{some-and}
 use Rattle.rc_cursor.specs.Snapshots.{kind_in, versions_in, versions_upto}
 use Rattle.rc_entries.specs.Detached.{IsDetached}
 use Rattle.rc_entries.specs.Entries.{IsCached}

@@ -12,7 +12,7 @@ use Rattle.rc_memory.specs.laws.Recent.{on-is}
 use Rattle.rc_memory.specs.laws.Rules.{length-on}
 use Rattle.rc_chain.specs.laws.Numbered.{version-or-none}
 use Rattle.rc_chain.specs.laws.PlaceBeside.{beside-none}
-use Rattle.rc_populate.specs.Filling.{on_newest_of}
+use Rattle.rc_entries.specs.Filling.{on_newest_of}
 use Rattle.rc_row_cache.proofs.Lists.{low-or, newest-long, newest-phase, newest-upto, same-phases, upto-kept}
 
 -- each version of a lower number holds no more than its source, and is continuous where it is needed

@@ -5,7 +5,7 @@ use Rattle.std.specs.Prelude.{◌≡◌, ℕ, Some}
 use Rattle.rc_core.specs.declared.entries.ChainKind.TheVariants.{Cache}
 use Rattle.rc_registry.specs.Registry.{IsNumberIn}
 use Rattle.rc_memory.specs.Memory.{KeptChain, Memory, chain_at}
-use Rattle.rc_evict.specs.Evictions.{IsRoomMade}
+use Rattle.rc_filler.specs.Evictions.{IsRoomMade}
 
 -- each chain of the cache that was there is there, as it was, and no other one is; and numbers that were to be told still are
 pub record AreCachesSame (old new : Memory) : Type 0 where

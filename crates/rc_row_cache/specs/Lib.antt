@@ -1,3 +1,12 @@
 pub mod Saying
 pub mod Leaving
 pub mod Calls
+pub mod Footprint
+pub use Rattle.rc_filler.specs.Fillers
+pub use Rattle.rc_entries.specs.Found
+pub use Rattle.rc_entries.specs.Entries
+pub use Rattle.rc_entries.specs.Detached
+pub use Rattle.rc_unstored.specs.Memtables
+pub use Rattle.rc_unstored.specs.Readers
+pub use Rattle.rc_unstored.specs.declared.unstored.Unstored
+pub use Rattle.rc_unstored.specs.Steps

@@ -15,12 +15,12 @@ ghost use Rattle.rc_memory.specs.Memory.{IsSnapshotTaken, KeptChain, Member, Mem
 ghost use Rattle.rc_memory.specs.Recency.{IsRecency};
 ghost use Rattle.rc_chain.specs.declared.chains.Snap.{Snap as Snapshot};
 ghost use Rattle.rc_chain.specs.Lives.{IsChainDropped};
-ghost use Rattle.rc_evict.specs.Evictions.{AreEvicted, IsRoomMade};
-ghost use Rattle.rc_populate.specs.Filling.{IsEntryOpened, given};
+ghost use Rattle.rc_filler.specs.Evictions.{AreEvicted, IsRoomMade};
+ghost use Rattle.rc_entries.specs.Filling.{IsEntryOpened, given};
 ghost use Rattle.rc_cursor.specs.Snapshots.{kind_seen};
-ghost use Rattle.rc_memtable.specs.LetGo.{AreLetGo};
-ghost use Rattle.rc_memtable.specs.Partitions.{AreAsBefore};
-ghost use Rattle.rc_memtable.specs.Writes.{AreSmall, DoAscend};
+ghost use Rattle.rc_filler.specs.LetGo.{AreLetGo};
+ghost use Rattle.rc_filler.specs.Partitions.{AreAsBefore};
+ghost use Rattle.rc_filler.specs.Writes.{AreSmall, DoAscend};
 ghost use Rattle.rc_entries.specs.Detached.{IsDetached};
 ghost use Rattle.rc_entries.specs.Entries.{LeavesCached};
 ghost use Rattle.rc_entries.specs.Invalidated.{IsInvalidated};
@@ -34,22 +34,22 @@ ghost use Rattle.rc_unstored.specs.Steps.{AreObjectsMoved, IsNotPut, IsPutBehind
 ghost use Rattle.rc_row_cache.specs.Leaving.{AreCachesSame, IsRoomMadeBeside};
 ghost use Rattle.rc_row_cache.specs.Saying.{AreFillsDone, Below, CacheSays, IsSameSince, PinsAlike, phase_pinned, with_below};
 
-use rc_chain::laws::{
-    a_chain_no_longer_found_keeps_what_is_said, a_relabelled_chain_keeps_what_is_said,
-    one_more_snapshot_keeps_what_is_said, one_snapshot_less_keeps_what_is_said,
-};
 use rc_entries::laws::{
     each_change_leaves_the_caches_chains, what_an_invalidation_leaves,
     what_leaves_the_caches_chains_leaves_the_entries,
 };
-use rc_evict::laws::{
-    an_evicted_object_leaves_a_version, evictions_leave_the_use_of_a_chain,
-    evictions_spare_memtables_and_readers, what_was_evicted_is_seen_as_before_or_lost,
+use rc_filler::chain_laws::{
+    a_chain_no_longer_found_keeps_what_is_said, a_relabelled_chain_keeps_what_is_said,
+    one_more_snapshot_keeps_what_is_said, one_snapshot_less_keeps_what_is_said,
 };
-use rc_populate::laws::{
+use rc_filler::populate_laws::{
     a_filled_gap_keeps_what_is_said, a_filled_row_keeps_what_is_said,
     a_filled_static_row_keeps_what_is_said, an_opened_chain_says_what_is_handed_in,
     what_the_source_says_may_be_filled,
+};
+use rc_unstored::evict_laws::{
+    an_evicted_object_leaves_a_version, evictions_leave_the_use_of_a_chain,
+    evictions_spare_memtables_and_readers, what_was_evicted_is_seen_as_before_or_lost,
 };
 use rc_unstored::laws::what_leaves_the_chains_of_both_leaves_their_writes;
 

@@ -11,7 +11,7 @@ ghost use Rattle.rc_mutation.specs.Source.{source_at_head, source_at_static};
 ghost use Rattle.rc_writes.specs.Allowed.{ChangeFits};
 ghost use Rattle.rc_version.specs.Versions.{statics_bytes};
 ghost use Rattle.rc_memory.specs.Memory.{KeptChain, Memory, chain_at, with_dropped};
-ghost use Rattle.rc_populate.specs.Filling.{IsEntryOpened, MayFill, given};
+ghost use Rattle.rc_entries.specs.Filling.{IsEntryOpened, MayFill, given};
 ghost use Rattle.rc_entries.specs.Detached.{IsDetached};
 ghost use Rattle.rc_entries.specs.Found.{IsForgotten, entry_number};
 ghost use Rattle.rc_entries.specs.Entries.{AreEntries, AreSettled, IsCached};
@@ -19,26 +19,25 @@ ghost use Rattle.rc_entries.specs.Invalidated.{IsInvalidated, KeepsReaders, entr
 ghost use Rattle.rc_chain.specs.declared.chains.Snap.{Snap as Snapshot};
 ghost use Rattle.rc_snapshots.specs.Seeing.{AllStillSee, NothingIsLost};
 ghost use Rattle.rc_snapshots.specs.Streams.{SeesChanges};
-ghost use Rattle.rc_row_cache.specs.Calls.{IsEntered, IsKeptOut, IsTakenOf, below_entry};
+ghost use Rattle.rc_row_cache.specs.Calls.{IsEnterRefused, IsEntered, IsKeptOut, IsOpenRefused, IsTakenOf, below_entry};
 ghost use Rattle.rc_row_cache.specs.Saying.{Below, CacheSays, IsSameSince, PinsAlike};
 
 use crate::laws::{
     each_snapshot_pins_what_it_pinned, room_leaves_the_entries, the_cache_says_what_lies_below,
     the_cache_says_what_lies_below_at_a_new_phase,
 };
-use rc_chain::laws::one_more_snapshot_keeps_what_is_said;
-use rc_chain::{Chains, Snap};
 use rc_entries::Entries;
 use rc_entries::laws::{
     each_change_leaves_the_caches_chains, each_key_is_found, what_an_invalidation_leaves,
     what_leaves_the_caches_chains_leaves_the_entries,
 };
-use rc_evict::{Room, make_room};
+use rc_filler::chain_laws::one_more_snapshot_keeps_what_is_said;
+use rc_filler::{Chains, Snap, static_need};
 use rc_mutation::{Head, Mutation, Partition};
-use rc_populate::static_need;
 use rc_position::PartKey;
-use rc_snapshots::laws::a_snapshot_sees_what_it_saw;
 use rc_unstored::laws::room_is_made_beside_what_memtables_see;
+use rc_unstored::snapshots_laws::a_snapshot_sees_what_it_saw;
+use rc_unstored::{Room, make_room};
 use std::alloc::{AllocError, Global};
 
 /// The row cache of a shard: which partitions are in it. What is known of them stands in chains of the shard, which each call is given.
@@ -84,7 +83,7 @@ impl RowCache {
         }
     }
 
-    /// Opens an entry for a partition that is none, by the head of what was read of it at a phase, once room was made for it by moves and evictions, and takes a snapshot of its chain. Entries whose chains are gone are forgotten. None where no room can be made: then one more skipped opening is counted. The only error is want of memory: then no snapshot was taken, and an entry was opened or none.
+    /// Opens an entry for a partition that is none, by the head of what was read of it at a phase, once room was made for it by moves and evictions, and takes a snapshot of its chain. Entries whose chains are gone are forgotten. None where no room can be made: then one more skipped opening is counted. The only error is want of memory: then no snapshot was taken, and an entry was opened or none, once room was made or at once.
     pub fn enter<const S: usize>(
         &mut self,
         alloc: Global,
@@ -101,6 +100,7 @@ impl RowCache {
         ensures entered { IfOk result (λ o. IfSome o (IsEntered S key.now read.now.pt read.now.statics phase self.new.entries chains.old chains.new)) }
         ensures may { IfOk result (λ o. IfSome o (λ s. MayFill chains.new s.chain s.pin)) }
         ensures kept_out { IfOk result (λ o. IfNone o ((entry_number self.new.entries key.now ≡ None) × IsKeptOut S chains.old chains.new)) }
+        ensures refused { OnErr result (IsEnterRefused S read.now.pt read.now.statics phase chains.old chains.new) }
         ensures others { (q : Sequence ℕ) (id : ℕ) → entry_number self.new.entries q ≡ Some id → (q ≡ key.now → ⊥) → entry_number self.old.entries q ≡ Some id }
         ensures entries { AreEntries self.new.entries chains.new }
         ensures settled { OnOk result (AreSettled self.new.entries chains.new) }
@@ -132,6 +132,7 @@ impl RowCache {
         ensures entered { IfOk result (λ o. IfSome o (IsEntered S key.now head.now.pt head.now.statics phase self.new.entries chains.old chains.new)) }
         ensures may { IfOk result (λ o. IfSome o (λ s. MayFill chains.new s.chain s.pin)) }
         ensures kept_out { IfOk result (λ o. IfNone o ((entry_number self.new.entries key.now ≡ None) × IsKeptOut S chains.old chains.new)) }
+        ensures refused { OnErr result (IsEnterRefused S head.now.pt head.now.statics phase chains.old chains.new) }
         ensures others { (q : Sequence ℕ) (id : ℕ) → entry_number self.new.entries q ≡ Some id → (q ≡ key.now → ⊥) → entry_number self.old.entries q ≡ Some id }
         ensures entries { AreEntries self.new.entries chains.new }
         ensures settled { AreSettled self.new.entries chains.new }
@@ -177,6 +178,7 @@ impl RowCache {
         requires spare { 152 + statics_bytes (given head.now.statics) ≤ spare_of S chains.old.region.usages }
         ensures some { IfOk result IsSome }
         ensures entered { IfOk result (λ o. IfSome o (λ s. (mid : Memory) × IsEntryOpened s.chain head.now.pt (given head.now.statics) phase chains.old mid × IsTakenOf key.now self.new.entries mid chains.new s)) }
+        ensures refused { OnErr result (IsOpenRefused head.now.pt head.now.statics phase chains.old chains.new) }
         ensures may { IfOk result (λ o. IfSome o (λ s. MayFill chains.new s.chain s.pin)) }
         ensures others { (q : Sequence ℕ) (id : ℕ) → entry_number self.new.entries q ≡ Some id → (q ≡ key.now → ⊥) → entry_number self.old.entries q ≡ Some id }
         ensures entries { AreEntries self.new.entries chains.new }

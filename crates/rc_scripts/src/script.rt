@@ -82,7 +82,8 @@ fn append_line(form: Form, chance: &mut Chance, text: &mut String) -> Result<(),
         69..=84 => append_read(chance, text),
         85..=89 => append_close(chance, text),
         90 => text.push_str("flush"),
-        91..=97 => append_compact(form, chance, text),
+        91..=95 => append_compact(form, chance, text),
+        96..=97 => append_evict(chance, text),
         98 => text.push_str("# a comment"),
         _ => text.push_str(form.schema_line()),
     }
@@ -209,6 +210,12 @@ fn append_read(chance: &mut Chance, text: &mut String) -> Result<(), AllocError>
 fn append_close(chance: &mut Chance, text: &mut String) -> Result<(), AllocError> {
     text.push_str("close")?;
     append_id(chance, text)
+}
+
+// An eviction of a few objects.
+fn append_evict(chance: &mut Chance, text: &mut String) -> Result<(), AllocError> {
+    let count = chance.below(9).saturating_add(1);
+    write!(text, "evict {count}")
 }
 
 // A compaction of at most so many segments, or a comment.

@@ -5,7 +5,7 @@ use Rattle.lsa_pool.specs.declared.Usage.{Usage}
 use Rattle.lsa_pool.specs.Room.{free_count, is_state_free}
 use Rattle.rc_lines.specs.declared.commands.Command.{Command}
 use Rattle.rc_lines.specs.declared.commands.Reply.{Reply}
-use Rattle.rc_memtable.specs.laws.NoMore.{counts-same}
+use Rattle.rc_lookup.specs.NoMore.{counts-same}
 use Rattle.rc_folder.specs.Counting.{AreCounted, counted, figures_in}
 use Rattle.rc_folder.specs.declared.counts.Answered.{Answered}
 use Rattle.rc_shard.specs.declared.shard.Shard.{Shard}

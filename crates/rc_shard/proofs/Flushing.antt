@@ -16,8 +16,8 @@ use Rattle.rc_lines.specs.declared.commands.Reply.TheVariants as replies
 use Rattle.rc_lines.specs.declared.commands.Refusal.TheVariants.{NothingToFlush, NoNumber, WriteFault}
 use Rattle.rc_memory.specs.Memory.{Memory}
 use Rattle.rc_snapshots.specs.Seeing.{StillSeeBoth}
-use Rattle.rc_unstored.specs.declared.unstored.Unstored.{Unstored}
-use Rattle.rc_unstored.specs.Memtables.{HaveWrites}
+use Rattle.rc_lookup.specs.Unstored.{Unstored}
+use Rattle.rc_lookup.specs.Memtables.{HaveWrites}
 use Rattle.rc_opened.specs.declared.opened.Opened.{Opened}
 use Rattle.rc_opened.specs.Opened.{snaps_of}
 use Rattle.rc_machine.specs.State.{State, numbers, unstored}
@@ -32,7 +32,12 @@ use Rattle.rc_shard.specs.declared.shard.Shard.{Shard}
 use Rattle.rc_shard.specs.Stands.{AreFor, AreSound, HaveUnstored, IsServed, Stands}
 use Rattle.rc_shard.specs.calls.Storing.{IsFlushAnswered, IsKept, IsTableStored}
 use Rattle.rc_shard.proofs.Served.{all-served}
-use Rattle.rc_shard.proofs.Standing.{kept-for, sound-less}
+use Rattle.rc_lookup.specs.RowCache.{RowCache}
+use Rattle.rc_shard.specs.Cached.{HaveCached}
+use Rattle.rc_shard.specs.calls.Caching.{Forgets, HasCache, LeavesCache}
+use Rattle.rc_shard.proofs.Caching.{leaves-itself}
+use Rattle.rc_shard.proofs.Unwritten.{said-still}
+use Rattle.rc_shard.proofs.Standing.{cached-still, joined-still, kept-for, sound-less}
 use Rattle.rc_shard.proofs.Taking.{moved}
 
 -- whether something is to be flushed
@@ -71,25 +76,42 @@ have-sealed schema u v m (w ∷ ws) later h are count in_log seals keeps = recor
   count = sealing_is m (w ∷ ws) later in_log are count ∙ ap (λ (b : Bool). m.stored + length (if b then later else w ∷ ws)) (not_none (length ws));
 }
 
+-- what the tables say of what is left in the cache is what they said, once others stand in one more table
+forgotten-still : (schema : SchemaValue) (parts : List Partition) (a b : List (List ℕ × ℕ)) (m n : Memory) (st : State) → Forgets parts a b m n → HaveCached schema a m (record st { sealed = sealing st }) → HaveCached schema b n (without_sealed (with_table st parts))
+forgotten-still schema parts a b m n st f h =
+    let was : HasCache a m = record { are = h.are; one = h.one; used = h.used; untaken = h.untaken } in
+    let now = f.has was in
+    record {
+      below = h.below;
+      fit = h.fit;
+      says = f.says schema (λ id phase. h.below id) h.says;
+      of_tables = λ key id found. (let e = f.found was key id found in joined-still (record st { sealed = sealing st }) (without_sealed (with_table st parts)) key (h.below id) (λ said. said-still st parts key said e.1) (h.of_tables key id e.0));
+      are = now.are;
+      one = now.one;
+      used = now.used;
+      untaken = now.untaken;
+    }
+
 module _ (lines : Opened → Memory → List OutLine → Type 0) where
   in-log : (files : Option Files) (k : Shard) (m : State) → Stands lines files k m → m.stored ≤ length m.log
   in-log files k m s = let a = s.over.stored in let b = s.over.sealed in omega (arith, a, b)
 
-  pub sealed-for : (files : Option Files) (k k' : Shard) (m : State) → k'.folder ≡ k.folder → k'.segments ≡ k.segments → k'.readers.items ≡ k.readers.items → k'.unstored.chains ≡ k.unstored.chains →
+  pub sealed-for : (files : Option Files) (k k' : Shard) (m : State) → k'.folder ≡ k.folder → k'.cache.entries ≡ k.cache.entries → k'.segments ≡ k.segments → k'.readers.items ≡ k.readers.items → k'.unstored.chains ≡ k.unstored.chains →
       ((schema : SchemaValue) (others : List Write) → HaveWrites schema k.unstored [] others → HaveWrites schema k'.unstored others []) → ((schema : SchemaValue) (w : Write) (writes others : List Write) → HaveWrites schema k.unstored (w ∷ writes) others → k'.unstored ≡ k.unstored) →
       Stands lines files k m → Stands lines files k' (record m { sealed = sealing m })
-  sealed-for files k k' m folder segs items chains seals keeps s =
-      let sealed : AreFor lines files k.folder k'.unstored k.readers.items k.segments (record m { sealed = sealing m }) = record {
+  sealed-for files k k' m folder cache segs items chains seals keeps s =
+      let sealed : AreFor lines files k.folder k'.unstored k.cache.entries k.readers.items k.segments (record m { sealed = sealing m }) = record {
         over = over_sealed files k.folder.schema k.folder.infos m s.over;
         have = have-sealed k.folder.schema k.unstored k'.unstored m s.have.sealed s.have.later s.have.have s.have.are s.have.count (in-log files k m s) (seals k.folder.schema) (keeps k.folder.schema);
         whole = s.whole;
         left = s.left;
         budget = s.budget;
         sound = (let t = subst (λ (x : Memory). AreSound x m) (sym chains) s.sound in record { mutations = t.mutations; budget = t.budget; weigh = t.weigh });
+        cached = cached-still k.folder.schema k.cache.entries k.unstored.chains k'.unstored.chains m (record m { sealed = sealing m }) (λ key said h. h) (subst (LeavesCache k.unstored.chains) (sym chains) (leaves-itself k.unstored.chains)) s.cached;
         served = subst (λ (x : Memory). AllZip (IsServed lines x) k.readers.items m.readers) (sym chains) s.served;
         two = s.two;
       } in
-      moved lines files k k' k'.unstored k.readers.items (record m { sealed = sealing m }) folder refl segs items sealed
+      moved lines files k k' k'.unstored k.readers.items (record m { sealed = sealing m }) folder refl cache segs items sealed
 
   -- ---- a flush that is refused
 
@@ -105,20 +127,20 @@ module _ (lines : Opened → Memory → List OutLine → Type 0) where
 
   module _ (stays : (o : Opened) (m n : Memory) (ls : List OutLine) → StillSeeBoth (snaps_of o) m n → lines o m ls → lines o n ls) where
     -- want of memory: the writes stay sealed
-    pub stops-sealed : (files files' : Option Files) (k l k' : Shard) → ((m : State) → Stands lines files k m → Stands lines files l (record m { sealed = sealing m })) → k'.folder ≡ l.folder → k'.segments ≡ l.segments → k'.readers.items ≡ l.readers.items → IsKept l.folder.schema l.unstored k'.unstored → files' ≡ files →
+    pub stops-sealed : (files files' : Option Files) (k l k' : Shard) → ((m : State) → Stands lines files k m → Stands lines files l (record m { sealed = sealing m })) → k'.folder ≡ l.folder → k'.cache.entries ≡ l.cache.entries → k'.segments ≡ l.segments → k'.readers.items ≡ l.readers.items → IsKept l.folder.schema l.unstored k'.unstored → files' ≡ files →
         Stops (Stands lines) files k Flush files' k'
-    stops-sealed files files' k l k' seals folder segs items kept still = λ m s.
+    stops-sealed files files' k l k' seals folder cache segs items kept still = λ m s.
         let sealed : State = record m { sealed = sealing m } in
-        (sealed, inr refl, subst (λ told. Stands lines told k' sealed) (sym still) (moved lines files l k' k'.unstored l.readers.items sealed folder refl segs items (kept-for lines stays files l.folder l.unstored k'.unstored l.readers.items l.segments sealed kept (seals m s))))
+        (sealed, inr refl, subst (λ told. Stands lines told k' sealed) (sym still) (moved lines files l k' k'.unstored l.readers.items sealed folder refl cache segs items (kept-for lines stays files l.folder l.unstored k'.unstored l.cache.entries l.readers.items l.segments sealed kept (seals m s))))
 
     module _ (files files' : Option Files) (k l k' : Shard) (n : ℕ) (some : (schema : SchemaValue) (writes later : List Write) → HaveWrites schema k.unstored writes later → writes ++ later ≡ [] → ⊥) (is : IsNextNumber k.folder.infos (Some n))
         (seals : (m : State) → Stands lines files k m → Stands lines files l (record m { sealed = sealing m })) (segs : k'.segments ≡ l.segments) (items : k'.readers.items ≡ l.readers.items) where
-      takes-write-fault : k'.folder ≡ l.folder → IsKept l.folder.schema l.unstored k'.unstored → files' ≡ files → Takes (Stands lines) files k Flush (replies.Refused WriteFault) files' k'
-      takes-write-fault folder kept still = λ m s.
+      takes-write-fault : k'.folder ≡ l.folder → k'.cache ≡ l.cache → IsKept l.folder.schema l.unstored k'.unstored → files' ≡ files → Takes (Stands lines) files k Flush (replies.Refused WriteFault) files' k'
+      takes-write-fault folder cache kept still = λ m s.
           let sealed : State = record m { sealed = sealing m } in (
             sealed,
             flushes without_sealed m _ _ false false s.whole (some-here files k m some s) (in_time files k.folder.schema k.folder.infos m n s.over is) (inr (refl, refl)),
-            subst (λ told. Stands lines told k' sealed) (sym still) (moved lines files l k' k'.unstored l.readers.items sealed folder refl segs items (kept-for lines stays files l.folder l.unstored k'.unstored l.readers.items l.segments sealed kept (seals m s))),
+            subst (λ told. Stands lines told k' sealed) (sym still) (moved lines files l k' k'.unstored l.readers.items sealed folder refl (ap (λ (x : RowCache). x.entries) cache) segs items (kept-for lines stays files l.folder l.unstored k'.unstored l.cache.entries l.readers.items l.segments sealed kept (seals m s))),
           )
 
       -- the sealed writes stand in the next table
@@ -132,7 +154,7 @@ module _ (lines : Opened → Memory → List OutLine → Type 0) where
             let parts = i.of_writes l.folder.schema t.have.sealed t.have.later t.have.have in
             let new : State = with_table m i.parts in
             let schema : k'.folder.schema ≡ l.folder.schema = ap (λ (f : Tabled). f.schema) i.added.keeps in
-            let stored : AreFor lines files' k'.folder k'.unstored l.readers.items l.segments (without_sealed new) = record {
+            let stored : AreFor lines files' k'.folder k'.unstored k'.cache.entries l.readers.items l.segments (without_sealed new) = record {
               over = over_let_go files' k'.folder.schema k'.folder.infos new (over_added files files' k.folder k'.folder n m i.parts s.over is added-here parts.mutations);
               have = record {
                 sealed = [];
@@ -144,11 +166,12 @@ module _ (lines : Opened → Memory → List OutLine → Type 0) where
               whole = refl;
               left = refl;
               budget = t.budget;
-              sound = (let a = sound-less l.unstored.chains k'.unstored.chains (record m { sealed = sealing m }) i.room t.sound in record { mutations = a.mutations; budget = a.budget; weigh = a.weigh });
+              sound = (let a = sound-less l.unstored.chains k'.unstored.chains (record m { sealed = sealing m }) i.budget i.cache.bytes t.sound in record { mutations = a.mutations; budget = a.budget; weigh = a.weigh });
+              cached = subst (λ (x : SchemaValue). HaveCached x k'.cache.entries k'.unstored.chains (without_sealed new)) (sym schema) (forgotten-still l.folder.schema i.parts l.cache.entries k'.cache.entries l.unstored.chains k'.unstored.chains m i.cache t.cached);
               served = all-served lines stays l.unstored.chains k'.unstored.chains l.readers.items m.readers i.seen t.served;
               two = t.two;
             } in
-            subst (λ os. AreFor lines files' k'.folder k'.unstored os k'.segments (without_sealed new)) (sym items) (subst (λ x. AreFor lines files' k'.folder k'.unstored l.readers.items x (without_sealed new)) (sym segs) stored)
+            subst (λ os. AreFor lines files' k'.folder k'.unstored k'.cache.entries os k'.segments (without_sealed new)) (sym items) (subst (λ x. AreFor lines files' k'.folder k'.unstored k'.cache.entries l.readers.items x (without_sealed new)) (sym segs) stored)
 
         takes-stored : Takes (Stands lines) files k Flush replies.Fine files' k'
         takes-stored = λ m s.
@@ -159,7 +182,7 @@ module _ (lines : Opened → Memory → List OutLine → Type 0) where
       -- what was answered of the table
       pub takes-written : (reply : Reply) → l.folder ≡ k.folder → IsFlushAnswered files l n files' k' reply → Takes (Stands lines) files k Flush reply files' k'
       takes-written reply same (inl w) = subst (λ r. Takes (Stands lines) files k Flush r files' k') (sym w.0) (takes-stored same w.1)
-      takes-written reply same (inr w) = subst (λ r. Takes (Stands lines) files k Flush r files' k') (sym w.0) (takes-write-fault w.1 w.2 w.3)
+      takes-written reply same (inr w) = subst (λ r. Takes (Stands lines) files k Flush r files' k') (sym w.0) (takes-write-fault w.1 w.2 w.3 w.4)
 
 -- the number is no file's
 pub no-file : (lines : Opened → Memory → List OutLine → Type 0) (files : Option Files) (k : Shard) (n : ℕ) → (m : State) × Stands lines files k m → IsNextNumber k.folder.infos (Some n) → IsNoFile files n

@@ -1,3 +1,8 @@
+mod Numbered
+mod Caching
+mod Live
+mod Unwritten
+mod Forgotten
 mod Places
 mod Served
 mod Standing
@@ -6,4 +11,7 @@ mod Flushing
 mod Opening
 mod Pinned
 mod Closing
+mod Looking
+mod Filled
+mod Evicted
 pub mod Counted

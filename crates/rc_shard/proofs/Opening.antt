@@ -11,7 +11,7 @@ use Rattle.rc_schema.specs.SchemaValue.{SchemaValue}
 use Rattle.rc_writes.specs.Allowed.{ChangeFits}
 use Rattle.rc_mutation.specs.declared.mutations.Mutation.{Mutation}
 use Rattle.rc_mutation.specs.declared.mutations.Write.{Write}
-use Rattle.rc_mutation.specs.Source.{IsJoinOf, IsMutation, changes_to}
+use Rattle.rc_mutation.specs.Source.{IsMutation, changes_to}
 use Rattle.rc_query.specs.declared.lines.OutLine.{OutLine}
 use Rattle.rc_query.specs.Answer.{answer}
 use Rattle.rc_lines.specs.Fits.{CommandFits}
@@ -19,8 +19,8 @@ use Rattle.rc_lines.specs.declared.commands.Command.TheVariants.{Put}
 use Rattle.rc_memory.specs.Memory.{HasPin, Memory}
 use Rattle.rc_chain.specs.declared.chains.Snap.{Snap}
 use Rattle.rc_snapshots.specs.Seeing.{AreThere, StillSeeBoth}
-use Rattle.rc_unstored.specs.Memtables.{HaveWrites}
-use Rattle.rc_unstored.specs.Readers.{IsNoneOf}
+use Rattle.rc_lookup.specs.Memtables.{HaveWrites}
+use Rattle.rc_lookup.specs.Readers.{IsNoneOf}
 use Rattle.rc_opened.specs.declared.opened.Opened.{Opened}
 use Rattle.rc_opened.specs.Opened.{AreChangesOf, snaps_of}
 use Rattle.rc_machine.specs.State.{Reader, State, rest_of, unstored}
@@ -70,13 +70,13 @@ unstored-goods : (schema : SchemaValue) (m : State) (sealed later : List Write) 
 unstored-goods schema m sealed later is fit are = goods-split schema sealed later (subst (Goods schema) (sym are) (goods-behind schema m.stored m.log (goods-of schema m.log is fit)))
 
 module _ (lines : Opened → Memory → List OutLine → Type 0) (stays : (o : Opened) (m n : Memory) (ls : List OutLine) → StillSeeBoth (snaps_of o) m n → lines o m ls → lines o n ls) where
-  pub opens-reader : (files : Option Files) (k k' : Shard) (id : ℕ) (key : List ℕ) (slice : Slice) (join : Mutation) (x : Opened) → ((writes later : List Write) → changes_to key (writes ++ later) ≡ changes_to key writes ++ changes_to key later) →
-      position (λ reader. reader.0 == id) k.readers.items ≡ None → k'.folder ≡ k.folder → k'.segments ≡ k.segments → k'.readers.items ≡ k.readers.items ++ (id, x) ∷ [] → ((schema : SchemaValue) → IsKept schema k.unstored k'.unstored) →
-      ((schema : SchemaValue) (writes later : List Write) (said : List Mutation) → HaveWrites schema k.unstored writes later → IsJoinOf join said → AreChangesOf schema (changes_to key writes) → AreChangesOf schema (changes_to key later) →
+  pub opens-reader : (files : Option Files) (k k' : Shard) (id : ℕ) (key : List ℕ) (slice : Slice) (x : Opened) → ((writes later : List Write) → changes_to key (writes ++ later) ≡ changes_to key writes ++ changes_to key later) →
+      position (λ reader. reader.0 == id) k.readers.items ≡ None → k'.folder ≡ k.folder → k'.cache.entries ≡ k.cache.entries → k'.segments ≡ k.segments → k'.readers.items ≡ k.readers.items ++ (id, x) ∷ [] → ((schema : SchemaValue) → IsKept schema k.unstored k'.unstored) → (said : List Mutation) →
+      ((schema : SchemaValue) (writes later : List Write) → HaveWrites schema k.unstored writes later → AreChangesOf schema (changes_to key writes) → AreChangesOf schema (changes_to key later) →
       lines x k'.unstored.chains (answer (said ++ (changes_to key writes ++ changes_to key later)) slice)) →
       AreThere k'.unstored.chains (snaps_of x) → AreOfTwo (snaps_of x) → ((s : Snap) → HasPin k.unstored.chains s.chain s.pin → IsNoneOf (snaps_of x) s) →
-      (m : State) (said : List Mutation) → Stands lines files k m → IsJoinOf join said → Stands lines files k' (record m { readers = m.readers ++ (id, reader_with m key slice said) ∷ [] })
-  opens-reader files k k' id key slice join x both unused folder segs items kept gives there two fresh m said s j =
+      (m : State) → Stands lines files k m → Stands lines files k' (record m { readers = m.readers ++ (id, reader_with m key slice said) ∷ [] })
+  opens-reader files k k' id key slice x both unused folder cache segs items kept said gives there two fresh m s =
       let schema : SchemaValue = k.folder.schema in
       let stays-in = kept schema in
       let h = s.have in
@@ -85,10 +85,10 @@ module _ (lines : Opened → Memory → List OutLine → Type 0) (stays : (o : O
       let split : changes_to key h.sealed ++ changes_to key h.later ≡ changes_to key (unstored m) = sym (both h.sealed h.later) ∙ ap (changes_to key) h.are in
       let r : Reader = reader_with m key slice said in
       let given : List (ℕ × Reader) = m.readers ++ (id, r) ∷ [] in
-      let left : lines x k'.unstored.chains (rest_of r) = subst (λ (cs : List Mutation). lines x k'.unstored.chains (answer (said ++ cs) slice)) split (gives schema h.sealed h.later said h.have j (changes-good schema key h.sealed goods.0) (changes-good schema key h.later goods.1)) in
+      let left : lines x k'.unstored.chains (rest_of r) = subst (λ (cs : List Mutation). lines x k'.unstored.chains (answer (said ++ cs) slice)) split (gives schema h.sealed h.later h.have (changes-good schema key h.sealed goods.0) (changes-good schema key h.later goods.1)) in
       let old = all-served lines stays k.unstored.chains k'.unstored.chains k.readers.items m.readers stays-in.seen s.served in
       let new : IsServed lines k'.unstored.chains (id, x) (id, r) = record { id = refl; left = left; there = there; chains = two } in
       let served = more-served lines k'.unstored.chains (id, x) (id, r) k.readers.items m.readers old new in
       let pairs = more-two lines k.unstored.chains id (id, x) k.readers.items m.readers s.served (nowhere-of id k.readers.items unused) refl fresh s.two in
-      let stands = reading-for lines files k.folder k.unstored k'.unstored k.readers.items (k.readers.items ++ (id, x) ∷ []) k.segments m given stays-in.stands stays-in.room served pairs s in
-      moved lines files k k' k'.unstored (k.readers.items ++ (id, x) ∷ []) (record m { readers = given }) folder refl segs items stands
+      let stands = reading-for lines files k.folder k.unstored k'.unstored k.cache.entries k.readers.items (k.readers.items ++ (id, x) ∷ []) k.segments m given stays-in.stands stays-in.room stays-in.cache served pairs s in
+      moved lines files k k' k'.unstored (k.readers.items ++ (id, x) ∷ []) (record m { readers = given }) folder refl cache segs items stands

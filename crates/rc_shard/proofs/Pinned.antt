@@ -11,13 +11,18 @@ use Rattle.rc_lines.specs.declared.commands.Command.TheVariants.{OpenRead}
 use Rattle.rc_lines.specs.declared.commands.Reply.{Reply}
 use Rattle.rc_lines.specs.declared.commands.Reply.TheVariants as replies
 use Rattle.rc_memory.specs.Memory.{Memory}
+use Rattle.rc_lookup.specs.Fillers.{losses}
+use Rattle.rc_stream.specs.Snapshot.{NoneLost}
 use Rattle.rc_snapshots.specs.declared.snaps.Snaps.{Snaps}
-use Rattle.rc_unstored.specs.declared.unstored.Unstored.{Unstored}
-use Rattle.rc_unstored.specs.Memtables.{HaveWrites, in_chains}
-use Rattle.rc_unstored.specs.Readers.{IsSnapshotOfKey, IsTakenIf}
-use Rattle.rc_unstored.specs.Steps.{AreSameKeys}
+use Rattle.rc_lookup.specs.Unstored.{Unstored}
+use Rattle.rc_lookup.specs.Memtables.{HaveWrites, in_chains}
+use Rattle.rc_lookup.specs.Readers.{IsSnapshotOfKey, IsTakenIf}
+use Rattle.rc_lookup.specs.Steps.{AreSameKeys}
+use Rattle.rc_lookup.specs.Rest.{LeavesRest}
 use Rattle.rc_opened.specs.declared.opened.Opened.{Opened}
 use Rattle.rc_opened.specs.Opened.{snaps_of}
+use Rattle.rc_shard.specs.declared.shard.Shard.{Shard}
+use Rattle.rc_shard.specs.Knowing.{IsCachedWhole, IsKnownOnceOpened}
 use Rattle.rc_shard.specs.Opening.{IsOnePinned, IsOpenedAsTold, PinsPartition}
 use Rattle.rc_shard.specs.calls.Keeping.{TellsOf}
 
@@ -37,9 +42,11 @@ pinned-in key u v m snaps o lent are sealed active exact keys =
 
 module _ (id : ℕ) (key : List ℕ) (slice : Slice) (readers : List (ℕ × Opened)) (u : Unstored 131072) (readers' : List (ℕ × Opened)) (v : Unstored 131072) where
   -- an opening that is answered is fine
-  pub told-opened : (r : Result Reply AllocError) → IfOk r (λ reply. reply ≡ replies.Fine) → IfOk r (λ _. IsOnePinned id key readers u readers' v) → IfOk r (λ reply. IsOpenedAsTold (OpenRead id key slice) reply readers u readers' v)
-  told-opened (Ok reply) fine pins = subst (λ q. IsOpenedAsTold (OpenRead id key slice) q readers u readers' v) (sym fine) pins
-  told-opened (Err e) fine pins = tt
+  pub told-opened : (others : List (ℕ × Opened)) (asked : Unstored 131072) (r : Result Reply AllocError) → others ≡ readers → LeavesRest u.chains asked.chains → AreSameKeys u asked → IfOk r (λ reply. reply ≡ replies.Fine) → IfOk r (λ _. IsOnePinned id key others asked readers' v) →
+      IfOk r (λ reply. IsOpenedAsTold (OpenRead id key slice) reply readers u readers' v)
+  told-opened others asked (Ok reply) same rest keys fine pins =
+      subst (λ q. IsOpenedAsTold (OpenRead id key slice) q readers u readers' v) (sym fine) (asked, rest, keys, subst (λ os. IsOnePinned id key os asked readers' v) same pins)
+  told-opened others asked (Err e) same rest keys fine pins = tt
 
   -- one that is refused is not
   pub told-unread : (e : StreamErr) (r : Result Reply AllocError) → IfOk r (TellsOf e) → IfOk r (λ reply. IsOpenedAsTold (OpenRead id key slice) reply readers u readers' v)
@@ -47,3 +54,16 @@ module _ (id : ℕ) (key : List ℕ) (slice : Slice) (readers : List (ℕ × Ope
   told-unread stream_err.Fault (Ok reply) told = subst (λ q. IsOpenedAsTold (OpenRead id key slice) q readers u readers' v) (sym told) tt
   told-unread (stream_err.Damaged file offset) (Ok reply) told = subst (λ q. IsOpenedAsTold (OpenRead id key slice) q readers u readers' v) (sym told) tt
   told-unread stream_err.NoMemory (Ok reply) told = absurd told
+
+module _ (id : ℕ) (key : List ℕ) (slice : Slice) (k : Shard) where
+  -- what is known of the partition is known once its reader is opened
+  pub filled-opened : (l k' : Shard) (r : Result Reply AllocError) → IfOk r (λ reply. reply ≡ replies.Fine) → IfOk r (λ _. IsCachedWhole l key → IsCachedWhole k' key) → (NoneLost (losses k.unstored.chains) (losses k'.unstored.chains) → IsCachedWhole l key) →
+      IfOk r (λ reply. IsKnownOnceOpened (OpenRead id key slice) reply k k')
+  filled-opened l k' (Ok reply) fine stays whole = subst (λ q. IsKnownOnceOpened (OpenRead id key slice) q k k') (sym fine) (λ none. stays (whole none))
+  filled-opened l k' (Err e) fine stays whole = tt
+
+  pub filled-unread : (k' : Shard) (e : StreamErr) (r : Result Reply AllocError) → IfOk r (TellsOf e) → IfOk r (λ reply. IsKnownOnceOpened (OpenRead id key slice) reply k k')
+  filled-unread k' e (Err x) told = tt
+  filled-unread k' stream_err.Fault (Ok reply) told = subst (λ q. IsKnownOnceOpened (OpenRead id key slice) q k k') (sym told) tt
+  filled-unread k' (stream_err.Damaged file offset) (Ok reply) told = subst (λ q. IsKnownOnceOpened (OpenRead id key slice) q k k') (sym told) tt
+  filled-unread k' stream_err.NoMemory (Ok reply) told = absurd told

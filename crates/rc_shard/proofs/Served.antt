@@ -11,7 +11,7 @@ use Rattle.rc_chain.specs.declared.chains.Snap.{Snap}
 use Rattle.rc_snapshots.specs.declared.snaps.Snaps.{Snaps}
 use Rattle.rc_snapshots.specs.Seeing.{AllStillSee, AreThere, HasSnap, StillSeeBoth, StillSees}
 use Rattle.rc_snapshots.specs.laws.Seeing.{both-still, there-then}
-use Rattle.rc_unstored.specs.Readers.{IsNoneOf}
+use Rattle.rc_lookup.specs.Readers.{IsNoneOf}
 use Rattle.rc_opened.specs.declared.opened.Opened.{Opened}
 use Rattle.rc_opened.specs.Opened.{snaps_of}
 use Rattle.rc_machine.specs.State.{Reader, rest_of}

@@ -4,6 +4,7 @@ use Rattle.std.specs.Prelude.{◌-◌, ℕ}
 use Rattle.lsa_pool.specs.Room.{free_count}
 use Rattle.lsa_region.specs.Region.{live_bytes, objects}
 use Rattle.rc_lines.specs.declared.commands.Figures.{Figures}
+use Rattle.rc_census.specs.Census.{census_of}
 use Rattle.rc_shard.specs.declared.shard.Shard.{Shard}
 
 -- what a shard tells of itself, where the store was asked so often
@@ -13,9 +14,9 @@ figures_of k asks = record {
   free = free_count k.unstored.chains.region.usages;
   objects = objects k.unstored.chains.region;
   live = live_bytes k.unstored.chains.region;
-  partitions = 0;
-  rows = 0;
-  dummies = 0;
+  partitions = (census_of k.unstored.chains).partitions;
+  rows = (census_of k.unstored.chains).rows;
+  dummies = (census_of k.unstored.chains).dummies;
   hits = k.answered.hits;
   misses = k.answered.misses;
   evicted = k.unstored.chains.counts.evicted;

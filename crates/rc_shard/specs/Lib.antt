@@ -1,4 +1,7 @@
+pub mod Cached
 pub mod Stands
 pub mod Counting
+pub mod Evicting
+pub mod Knowing
 pub mod Opening
 pub mod calls

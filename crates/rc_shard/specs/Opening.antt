@@ -1,6 +1,7 @@
 -- What is done to memory where a reader is opened.
 --     PinsPartition    a reader pins what is in memory of a partition, and nothing else is done
---     IsOpenedAsTold   so the shard does, where an opening is answered
+--     IsOnePinned      so does one more reader
+--     IsOpenedAsTold   so the shard does, where an opening is answered, once the row cache was asked
 use Rattle.std.specs.Prelude.{◌≡◌, ◌++◌, ◌∷◌, [], ℕ, List, ⊤}
 use Rattle.rc_schema.specs.SchemaValue.{SchemaValue}
 use Rattle.rc_mutation.specs.declared.mutations.Write.{Write}
@@ -9,10 +10,11 @@ use Rattle.rc_lines.specs.declared.commands.Command.TheVariants.{OpenRead}
 use Rattle.rc_lines.specs.declared.commands.Reply.{Reply}
 use Rattle.rc_lines.specs.declared.commands.Reply.TheVariants.{Fine}
 use Rattle.rc_memory.specs.Memory.{Memory}
-use Rattle.rc_unstored.specs.declared.unstored.Unstored.{Unstored}
-use Rattle.rc_unstored.specs.Memtables.{HaveWrites}
-use Rattle.rc_unstored.specs.Readers.{IsSnapshotOfKey, IsTakenIf}
-use Rattle.rc_unstored.specs.Steps.{AreSameKeys}
+use Rattle.rc_lookup.specs.Unstored.{Unstored}
+use Rattle.rc_lookup.specs.Memtables.{HaveWrites}
+use Rattle.rc_lookup.specs.Readers.{IsSnapshotOfKey, IsTakenIf}
+use Rattle.rc_lookup.specs.Steps.{AreSameKeys}
+use Rattle.rc_lookup.specs.Rest.{LeavesRest}
 use Rattle.rc_opened.specs.declared.opened.Opened.{Opened}
 use Rattle.rc_opened.specs.Opened.{snaps_of}
 
@@ -27,7 +29,7 @@ pub record PinsPartition (key : List ℕ) (old new : Unstored 131072) (o : Opene
 abbrev pub IsOnePinned : ℕ → List ℕ → List (ℕ × Opened) → Unstored 131072 → List (ℕ × Opened) → Unstored 131072 → Type 0
 IsOnePinned id key readers old readers' new = (o : Opened) × (readers' ≡ readers ++ (id, o) ∷ []) × PinsPartition key old new o
 
--- An opening that is answered copies nothing of what is in memory: its reader pins it.
+-- An opening that is answered copies nothing of what is written and stands in no table: its reader pins that. Before it does, the row cache is asked what the tables say, and filled where it does not know it: that leaves memtables, and what the open readers see of them, as they were.
 abbrev pub IsOpenedAsTold : Command → Reply → List (ℕ × Opened) → Unstored 131072 → List (ℕ × Opened) → Unstored 131072 → Type 0
-IsOpenedAsTold (OpenRead id key slice) Fine readers old readers' new = IsOnePinned id key readers old readers' new
+IsOpenedAsTold (OpenRead id key slice) Fine readers old readers' new = (asked : Unstored 131072) × LeavesRest old.chains asked.chains × AreSameKeys old asked × IsOnePinned id key readers asked readers' new
 IsOpenedAsTold command reply readers old readers' new = ⊤

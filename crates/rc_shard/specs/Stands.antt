@@ -3,12 +3,11 @@
 --     AreOfTwo, ShareNone    the snapshots of a reader, and of two
 --     IsServed        an open reader is the machine's
 --     AreTwo          two readers have ids and snapshots of their own
---     AreSound        the writes are such as the program has, and what is live is no more than they weigh
+--     AreSound        the writes are such as the program has, and memtables take no more than they weigh
 --     AreFor, Stands      all of this, over the tables of a folder
 --     IsFullAsTold    when a write is refused as full
 use Rattle.std.specs.Prelude.{◌≡◌, ◌≤◌, ◌+◌, ℕ, false, List, ◌++◌, length, map, All, AllPairs, Option, IfSome, sum_by, ⊤}
 use Rattle.std.specs.List.{AllZip}
-use Rattle.lsa_region.specs.Region.{live_bytes}
 use Rattle.rc_outside.specs.Files.{Files}
 use Rattle.rc_schema.specs.SchemaValue.{SchemaValue}
 use Rattle.rc_writes.specs.Weight.{weight}
@@ -23,15 +22,17 @@ use Rattle.rc_lines.specs.declared.commands.Reply.TheVariants.{Refused}
 use Rattle.rc_memory.specs.Memory.{Memory}
 use Rattle.rc_snapshots.specs.declared.snaps.Snaps.{Snaps}
 use Rattle.rc_snapshots.specs.Seeing.{AreThere}
-use Rattle.rc_unstored.specs.declared.unstored.Unstored.{Unstored}
-use Rattle.rc_unstored.specs.Memtables.{HaveWrites, IsFullFor}
-use Rattle.rc_unstored.specs.Readers.{IsNoneOf}
+use Rattle.rc_lookup.specs.Unstored.{Unstored}
+use Rattle.rc_lookup.specs.Memtables.{HaveWrites, IsFullFor}
+use Rattle.rc_lookup.specs.Readers.{IsNoneOf}
+use Rattle.rc_lookup.specs.Footprint.{memtable_bytes}
 use Rattle.rc_opened.specs.declared.opened.Opened.{Opened}
 use Rattle.rc_opened.specs.Opened.{snaps_of}
 use Rattle.rc_folder.specs.Tabled.{Tabled}
 use Rattle.rc_machine.specs.State.{Reader, State, rest_of, unstored}
 use Rattle.rc_machine.specs.Standing.{IsOver}
 use Rattle.rc_shard.specs.declared.shard.Shard.{Shard}
+use Rattle.rc_shard.specs.Cached.{HaveCached}
 
 -- under a schema both memtables stand for the writes of the state that stand in no table: one for those that are sealed, the other for the later ones
 pub record HaveUnstored (schema : SchemaValue) (u : Unstored 131072) (m : State) : Type 0 where
@@ -41,11 +42,11 @@ pub record HaveUnstored (schema : SchemaValue) (u : Unstored 131072) (m : State)
   pub are : sealed ++ later ≡ unstored m
   pub count : m.sealed ≡ m.stored + length sealed
 
--- the writes of the state are such as the program has, and in memory no more is live than they weigh
+-- the writes of the state are such as the program has, and memtables take no more than they weigh
 pub record AreSound (memory : Memory) (m : State) : Type 0 where
   pub mutations : All (λ w. IsMutation w.change) m.log
   pub budget : length memory.region.usages ≡ m.segments
-  pub weigh : live_bytes memory.region ≤ sum_by (λ w. weight w.change) m.log
+  pub weigh : memtable_bytes memory ≤ sum_by (λ w. weight w.change) m.log
 
 -- two snapshots are of two chains
 abbrev pub AreOfTwo : Snaps → Type 0
@@ -73,20 +74,21 @@ module _ (lines : Opened → Memory → List OutLine → Type 0) where
     pub there : AreThere memory (snaps_of o.1)
     pub chains : AreOfTwo (snaps_of o.1)
 
-  -- Over a store with these files, a folder, both memtables, open readers and a budget of segments stand for the state. A flush is whole, so nothing that is written is left to a cache.
-  pub record AreFor (told : Option Files) (f : Tabled) (u : Unstored 131072) (readers : List (ℕ × Opened)) (segments : ℕ) (m : State) : Type 0 where
+  -- Over a store with these files, a folder, both memtables, the row cache's entries, open readers and a budget of segments stand for the state. A flush is whole, so nothing that is written is left to a cache.
+  pub record AreFor (told : Option Files) (f : Tabled) (u : Unstored 131072) (entries : List (List ℕ × ℕ)) (readers : List (ℕ × Opened)) (segments : ℕ) (m : State) : Type 0 where
     pub over : IsOver told f.schema f.infos m
     pub have : HaveUnstored f.schema u m
     pub whole : m.written ≡ false
     pub left : m.left ≡ 0
     pub budget : m.segments ≡ segments
     pub sound : AreSound u.chains m
+    pub cached : HaveCached f.schema entries u.chains m
     pub served : AllZip (IsServed u.chains) readers m.readers
     pub two : AllPairs AreTwo (map holding readers)
 
   -- over a store with these files the shard stands for the state
   abbrev pub Stands : Option Files → Shard → State → Type 0
-  Stands told k m = AreFor told k.folder k.unstored k.readers.items k.segments m
+  Stands told k m = AreFor told k.folder k.unstored k.cache.entries k.readers.items k.segments m
 
 -- A write is refused as full only where there is no room for it then, nor can it be made.
 abbrev pub IsFullAsTold : Command → Reply → SchemaValue → Unstored 131072 → Type 0

@@ -1,3 +1,5 @@
 -- What inner functions of this crate promise each other; no public clause speaks of it.
+pub mod Caching
 pub mod Keeping
+pub mod Looking
 pub mod Storing

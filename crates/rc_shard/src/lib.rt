@@ -1,6 +1,10 @@
 //! One shard: the machine served by memtables in a region, snapshots and tables.
 #![tactic(auto)]
 
+mod evicting;
+mod forgetting;
+mod leaving;
+mod putting;
 mod shard;
 
 pub use rc_folder::{Answered, Machine, OpenErr};

@@ -1,63 +1,81 @@
 //! The shard.
-ghost use Rattle.std.specs.Prelude.{◌≡◌, ◌+◌, ◌*◌, ◌≤◌, ◌==◌, ◌++◌, ◌∷◌, [], ℕ, AllPairs, List, Option, None, Some, IsTrue, IfErr, IfOk, IfSome, OnErr, map, position};
+ghost use Rattle.std.specs.Prelude.{◌≡◌, ◌+◌, ◌*◌, ◌≤◌, ◌==◌, ◌++◌, ◌∷◌, [], ℕ, AllPairs, List, Option, None, Some, IsSome, IsTrue, IfErr, IfOk, IfSome, OnErr, OnOk, map, position};
 ghost use Rattle.std.specs.FinMap.{values};
 ghost use Rattle.std.specs.List.{AllByRecursion};
 ghost use Rattle.rc_outside.specs.Files.{Files, HoldsSameFiles};
 ghost use Rattle.rc_outside.specs.Faults.{RisesIfFault, Rose};
 ghost use Rattle.rc_mutation.specs.declared.mutations.Mutation.{Mutation as Change};
 ghost use Rattle.rc_mutation.specs.declared.mutations.Write.{Write as Written};
-ghost use Rattle.rc_mutation.specs.Source.{IsJoinOf, changes_to};
+ghost use Rattle.rc_mutation.specs.Fragments.{fragments};
+ghost use Rattle.rc_mutation.specs.Source.{IsJoinOf, IsMutation, changes_to};
 ghost use Rattle.rc_query.specs.Answer.{answer};
 ghost use Rattle.rc_schema.specs.SchemaValue.{SchemaValue};
+ghost use Rattle.rc_writes.specs.Allowed.{ChangeFits};
+ghost use Rattle.rc_stream.specs.Causes.{Caused};
+ghost use Rattle.rc_stream.specs.Snapshot.{NoneLost};
+ghost use Rattle.rc_stream.specs.Stream.{stream_of};
 ghost use Rattle.rc_memory.specs.Memory.{HasPin};
 ghost use Rattle.rc_chain.specs.declared.chains.Snap.{Snap as Snapshot};
 ghost use Rattle.rc_snapshots.specs.Seeing.{AreThere};
-ghost use Rattle.rc_unstored.specs.Memtables.{HaveWrites};
-ghost use Rattle.rc_unstored.specs.Readers.{IsNoneOf};
+ghost use Rattle.rc_lookup.specs.Fillers.{losses};
+ghost use Rattle.rc_lookup.specs.Memtables.{HaveWrites};
+ghost use Rattle.rc_lookup.specs.Readers.{IsNoneOf};
 ghost use Rattle.rc_opened.specs.Opened.{AreChangesOf, snaps_of};
-ghost use Rattle.rc_tables.specs.Tables.{listing};
+ghost use Rattle.rc_tables.specs.Tables.{IsDamageOf, listing};
 ghost use Rattle.rc_lines.specs.Fits.{CommandFits};
 ghost use Rattle.rc_machine.specs.Built.{is_built};
 ghost use Rattle.rc_machine.specs.Serving.{FaultsAreCounted, OnFaulty, Stops, Takes, checks_of, most_asks};
 ghost use Rattle.rc_machine.specs.State.{State, Table, opened_state};
 ghost use Rattle.rc_machine.specs.Tables.{AreListed, AreTables};
-ghost use Rattle.rc_machine.specs.Steps.{reader_with};
+ghost use Rattle.rc_machine.specs.Steps.{IsSaid, reader_with};
 ghost use Rattle.rc_tfile.specs.declared.info.TableInfo.{TableInfo};
 ghost use Rattle.rc_folder.specs.Counting.{AreCounted, AreFresh, figures_in};
 ghost use Rattle.rc_folder.specs.Opening.{IsOpeningRefused, OnOpenFault};
 ghost use Rattle.rc_folder.specs.Tabled.{IsNextNumber};
 ghost use Rattle.rc_shard.specs.Counting.{figures_of};
+ghost use Rattle.rc_shard.specs.Evicting.{IsEvictedAsTold};
+ghost use Rattle.rc_shard.specs.Knowing.{AsksNothingWhereKnown, IsCachedWhole, IsKnownOnceOpened};
 ghost use Rattle.rc_shard.specs.Opening.{IsOnePinned, IsOpenedAsTold, PinsPartition};
 ghost use Rattle.rc_shard.specs.Stands.{AreOfTwo, AreTwo, IsFullAsTold, holding};
 ghost use Rattle.rc_shard.specs.calls.Keeping.{CountsStay, Keeps, TellsOf};
+ghost use Rattle.rc_shard.specs.calls.Looking.{IsCacheUsed, IsTabled, KeepsOver};
 ghost use Rattle.rc_shard.specs.calls.Storing.{IsFlushAnswered, IsKept};
 
-use rc_chain::Chains;
+use crate::evicting::evict;
+use crate::forgetting::forget_all;
+use crate::leaving::{what_calls_leave_of_the_cache, what_is_live_is_of_memtables};
+use crate::putting::put_in;
+use rc_census::census;
 use rc_folder::{Answered, Folder, Machine, OpenErr};
 use rc_lines::{Command, Figures, Refusal, Reply};
+use rc_lookup::row_cache_laws::the_cache_says_what_lies_below;
+use rc_lookup::snapshots_laws::a_snapshot_sees_what_it_saw;
+use rc_lookup::unstored_laws::{
+    both_say_what_was_written, what_a_call_leaves_of_the_room, what_a_snapshot_of_a_key_sees,
+    what_leaves_the_chains_of_both_leaves_their_writes,
+};
+use rc_lookup::{Chains, RowCache, Unstored, lookup, populate};
+use rc_mutation::laws::a_join_says_what_the_writes_say;
 use rc_mutation::{Mutation, Write};
 use rc_opened::{Leaves, Opened, what_is_left_stays_where_the_snapshots_see_the_same};
 use rc_outside::Store;
 use rc_position::{PartKey, Slice};
 use rc_schema::Schema;
-use rc_snapshots::laws::a_snapshot_sees_what_it_saw;
-use rc_stream::StreamErr;
+use rc_stream::{ListFrags, StreamErr};
 use rc_tfile::WriteErr;
-use rc_unstored::Unstored;
-use rc_unstored::laws::{
-    both_say_what_was_written, what_a_call_leaves_of_the_room, what_a_snapshot_of_a_key_sees,
-};
+use rc_writes::laws::what_says_the_same_fits;
 use std::alloc::{AllocError, Global};
 
 /// The most readers that may be open at once.
 const MOST_READERS: usize = 64;
 
 /// One shard: it takes one step of the machine after another. What is written and stands in no table lies in version chains, in a region
-/// of segments of 131,072 bytes; an open reader pins the versions that it sees, and reads what the tables say of its partition once, when
-/// it is opened.
+/// of segments of 131,072 bytes, and so does what the row cache knows of the tables. An open reader pins the versions that it sees; what the
+/// tables say of its partition it is told once, when it is opened, by the row cache where that knows all of it, else by the tables.
 pub struct Shard {
     folder: Folder,
     unstored: Unstored<131_072>,
+    cache: RowCache,
     readers: Vec<(u32, Opened)>,
     answered: Answered,
     segments: u32,
@@ -95,11 +113,15 @@ impl Machine for Shard {
         ensures store { HoldsSameFiles W.files W.building store.old store.new }
         ensures asks { IfSome (W.files store.old) (λ told. W.asks store.new ≤ W.asks store.old + checks_of (values told)) }
     {
+        what_is_live_is_of_memtables();
+        the_cache_says_what_lies_below();
         let folder = Folder::open(alloc, store, schema)?;
+        let cache = RowCache::new(alloc);
         match Unstored::open(alloc, segments) {
             Ok(unstored) => Ok(Shard {
                 folder,
                 unstored,
+                cache,
                 readers: Vec::new(alloc),
                 answered: Answered::none(),
                 segments,
@@ -133,6 +155,9 @@ impl Machine for Shard {
         ensures asks { W.asks store.new ≤ W.asks store.old + most_asks self.old.folder.infos command.now }
         ensures full { IfOk result (λ reply. IsFullAsTold command.now reply self.old.folder.schema self.new.unstored) }
         ensures pins { IfOk result (λ reply. IsOpenedAsTold command.now reply self.old.readers.items self.old.unstored self.new.readers.items self.new.unstored) }
+        ensures known { AsksNothingWhereKnown command.now self.old (W.asks store.old) (W.asks store.new) }
+        ensures filled { IfOk result (λ reply. IsKnownOnceOpened command.now reply self.old self.new) }
+        ensures evicts { IsEvictedAsTold command.now self.old.unstored.chains self.new.unstored.chains }
         ensures figures { IfOk result (λ reply. AreCounted command.now reply (W.asks store.old) (W.asks store.new) (figures_of self.old) (figures_of self.new)) }
     {
         let before = store.asks();
@@ -148,6 +173,7 @@ impl Machine for Shard {
         let Shard {
             folder: _folder,
             unstored,
+            cache: _cache,
             readers,
             answered: _answered,
             segments: _segments,
@@ -159,21 +185,22 @@ impl Machine for Shard {
 
 impl Shard {
     /// What the shard tells of itself, where the store was asked so often: its segments and objects, how many answers were had with and
-    /// without asking the store, and how often it was asked since the shard was opened. What is cached is nothing yet.
+    /// without asking the store, and how often it was asked since the shard was opened; and what the row cache has, counted.
     pub fn figures<W: Store>(&self, store: &W) -> Figures
         ensures { result ≡ figures_of self.now (W.asks store.now) }
     {
         let region = self.unstored.chains.region();
         let counts = self.unstored.chains.counts();
+        let cached = census(&self.unstored.chains);
         let free = u64::from(region.free());
         Figures {
             segments: u64::from(self.segments).saturating_sub(free),
             free,
             objects: region.objects(),
             live: region.live() as u64,
-            partitions: 0,
-            rows: 0,
-            dummies: 0,
+            partitions: cached.partitions,
+            rows: cached.rows,
+            dummies: cached.dummies,
             hits: self.answered.hits,
             misses: self.answered.misses,
             evicted: counts.evicted,
@@ -199,6 +226,9 @@ impl Shard {
         ensures asks { W.asks store.new ≤ W.asks store.old + most_asks self.old.folder.infos command.now }
         ensures full { IfOk result (λ reply. IsFullAsTold command.now reply self.old.folder.schema self.new.unstored) }
         ensures pins { IfOk result (λ reply. IsOpenedAsTold command.now reply self.old.readers.items self.old.unstored self.new.readers.items self.new.unstored) }
+        ensures known { AsksNothingWhereKnown command.now self.old (W.asks store.old) (W.asks store.new) }
+        ensures filled { IfOk result (λ reply. IsKnownOnceOpened command.now reply self.old self.new) }
+        ensures evicts { IsEvictedAsTold command.now self.old.unstored.chains self.new.unstored.chains }
         ensures counts { CountsStay self.old self.new }
         ensures told { IfOk result (λ reply. IfSome (figures_in command.now reply) (λ figures. figures ≡ figures_of self.old (W.asks store.old))) }
     {
@@ -210,16 +240,20 @@ impl Shard {
             Command::Read { id, count } => self.read(alloc, *id, *count),
             Command::Close { id } => Ok(self.close_reader(*id)),
             Command::Flush => self.flush(alloc, store),
+            Command::Evict { count } => {
+                what_is_left_stays_where_the_snapshots_see_the_same::<131_072>();
+                evict(&mut self.unstored, *count);
+                Ok(Reply::Fine)
+            }
             Command::Compact { count } => {
                 what_is_left_stays_where_the_snapshots_see_the_same::<131_072>();
                 compact(&mut self.unstored, *count);
                 Ok(Reply::Fine)
             }
             Command::Stats => Ok(Reply::Stats(self.figures(store))),
-            Command::FlushBegin
-            | Command::FlushStep { .. }
-            | Command::Evict { .. }
-            | Command::Clean { .. } => unreachable!(),
+            Command::FlushBegin | Command::FlushStep { .. } | Command::Clean { .. } => {
+                unreachable!()
+            }
         }
     }
 
@@ -246,12 +280,11 @@ impl Shard {
         ensures counts { CountsStay self.old self.new }
     {
         what_is_left_stays_where_the_snapshots_see_the_same::<131_072>();
-        what_a_call_leaves_of_the_room();
         write.change.holds_together();
         let schema = self.folder.schema();
         let _entry = schema.largest_entry();
         let _statics = schema.largest_static();
-        if self.unstored.put(alloc, schema, write)? {
+        if put_in(alloc, &mut self.unstored, schema, write)? {
             Ok(Reply::Fine)
         } else {
             Ok(Reply::Refused(Refusal::Full))
@@ -269,11 +302,13 @@ impl Shard {
     ) -> Result<Reply, AllocError>
         requires { (m : State) × ⟦<Shard as Machine>⟧.stands (W.files store.old) self.old m }
         ensures step { IfOk result (λ reply. Takes ⟦<Shard as Machine>⟧.stands (W.files store.old) self.old (Command.OpenRead id key.now slice.now) reply (W.files store.new) self.new) }
-        ensures err { OnErr result (Keeps ⟦<Shard as Machine>⟧.stands self.old self.new) }
+        ensures err { OnErr result (KeepsOver ⟦<Shard as Machine>⟧.stands (W.files store.old) self.old self.new) }
         ensures faults { FaultsAreCounted result (W.faults store.old) (W.faults store.new) }
         ensures store { HoldsSameFiles W.files W.building store.old store.new }
         ensures asks { W.asks store.new ≤ W.asks store.old + 2 * listing key.now self.old.folder.infos }
         ensures pins { IfOk result (λ reply. IsOpenedAsTold (Command.OpenRead id key.now slice.now) reply self.old.readers.items self.old.unstored self.new.readers.items self.new.unstored) }
+        ensures known { IsCachedWhole self.old key.now → W.asks store.new ≡ W.asks store.old }
+        ensures filled { IfOk result (λ reply. IsKnownOnceOpened (Command.OpenRead id key.now slice.now) reply self.old self.new) }
         ensures counts { CountsStay self.old self.new }
     {
         if place_of(self.readers.as_slice(), id).is_some() {
@@ -282,27 +317,131 @@ impl Shard {
         if self.readers.len() >= MOST_READERS {
             return Ok(Reply::Refused(Refusal::TooManyReaders));
         }
-        match self.folder.read(alloc, store, key) {
-            Ok(tables) => self.open_over(alloc, id, key, slice, &tables),
+        match self.tables_of(alloc, store, key) {
+            Ok(list) => self.open_over(alloc, id, key, slice, list),
             Err(error) => not_read(error),
         }
     }
 
-    // Opens a reader of an id that is not open, over what the tables said.
+    // What the tables say of a partition, as the stream of its fragments: from the row cache, where that knows all of it; else they are read, and the cache is filled.
+    fn tables_of<W: Store>(
+        &mut self,
+        alloc: Global,
+        store: &mut W,
+        key: &PartKey,
+    ) -> Result<ListFrags, StreamErr>
+        requires { (m : State) × ⟦<Shard as Machine>⟧.stands (W.files store.old) self.old m }
+        ensures says { (m : State) → ⟦<Shard as Machine>⟧.stands (W.files store.old) self.old m → IfOk result (IsTabled m key.now) }
+        ensures known { IsCachedWhole self.old key.now → W.asks store.new ≡ W.asks store.old }
+        ensures whole { OnOk result (NoneLost (losses self.old.unstored.chains) (losses self.new.unstored.chains) → IsCachedWhole self.new key.now) }
+        ensures keeps { KeepsOver ⟦<Shard as Machine>⟧.stands (W.files store.old) self.old self.new }
+        ensures beside { IsCacheUsed self.old self.new }
+        ensures damaged { IfErr result (IsDamageOf self.old.folder.schema key.now self.old.folder.infos) }
+        ensures cause { Caused result (W.files store.old) (W.faults store.old) (W.faults store.new) }
+        ensures store { HoldsSameFiles W.files W.building store.old store.new }
+        ensures asks { W.asks store.new ≤ W.asks store.old + 2 * listing key.now self.old.folder.infos }
+    {
+        match self.look_up(alloc, key) {
+            Ok(Some(list)) => Ok(list),
+            Ok(None) => self.read_tables(alloc, store, key),
+            Err(_) => Err(StreamErr::NoMemory),
+        }
+    }
+
+    // What the row cache says of a partition, as the stream of its fragments, where it knows all of it. The only error is want of memory.
+    fn look_up(&mut self, alloc: Global, key: &PartKey) -> Result<Option<ListFrags>, AllocError>
+        requires { (files : Option Files) × (m : State) × ⟦<Shard as Machine>⟧.stands files self.old m }
+        ensures says { (files : Option Files) (m : State) → ⟦<Shard as Machine>⟧.stands files self.old m → IfOk result (λ o. IfSome o (IsTabled m key.now)) }
+        ensures known { IsCachedWhole self.old key.now → IfOk result IsSome }
+        ensures whole { IfOk result (λ o. IfSome o (λ _. IsCachedWhole self.new key.now)) }
+        ensures keeps { Keeps ⟦<Shard as Machine>⟧.stands self.old self.new }
+        ensures beside { IsCacheUsed self.old self.new }
+    {
+        what_is_left_stays_where_the_snapshots_see_the_same::<131_072>();
+        what_leaves_the_chains_of_both_leaves_their_writes();
+        let schema = self.folder.schema();
+        let _columns = schema.cols();
+        let _entry = schema.largest_entry();
+        let _statics = schema.largest_static();
+        lookup(alloc, &mut self.cache, &mut self.unstored.chains, key)
+    }
+
+    // What the tables say of a partition, as the stream of its fragments: they are read, and the row cache is filled, whether they say anything or not.
+    fn read_tables<W: Store>(
+        &mut self,
+        alloc: Global,
+        store: &mut W,
+        key: &PartKey,
+    ) -> Result<ListFrags, StreamErr>
+        requires { (m : State) × ⟦<Shard as Machine>⟧.stands (W.files store.old) self.old m }
+        ensures says { (m : State) → ⟦<Shard as Machine>⟧.stands (W.files store.old) self.old m → IfOk result (IsTabled m key.now) }
+        ensures whole { OnOk result (NoneLost (losses self.old.unstored.chains) (losses self.new.unstored.chains) → IsCachedWhole self.new key.now) }
+        ensures keeps { KeepsOver ⟦<Shard as Machine>⟧.stands (W.files store.old) self.old self.new }
+        ensures beside { IsCacheUsed self.old self.new }
+        ensures damaged { IfErr result (IsDamageOf self.old.folder.schema key.now self.old.folder.infos) }
+        ensures cause { Caused result (W.files store.old) (W.faults store.old) (W.faults store.new) }
+        ensures store { HoldsSameFiles W.files W.building store.old store.new }
+        ensures asks { W.asks store.new ≤ W.asks store.old + 2 * listing key.now self.old.folder.infos }
+    {
+        a_join_says_what_the_writes_say();
+        what_says_the_same_fits();
+        match self.folder.read(alloc, store, key) {
+            Ok(read) => self.fill(alloc, key, &read),
+            Err(error) => Err(error),
+        }
+    }
+
+    // The stream of what was read of a partition, once that was put into the row cache. The only error is want of memory.
+    fn fill(
+        &mut self,
+        alloc: Global,
+        key: &PartKey,
+        read: &Mutation,
+    ) -> Result<ListFrags, StreamErr>
+        requires stands { (files : Option Files) × (m : State) × ⟦<Shard as Machine>⟧.stands files self.old m }
+        requires mutation { IsMutation read.now }
+        requires fits { ChangeFits self.old.folder.schema read.now }
+        ensures stream { IfOk result (λ list. list ≡ stream_of (fragments read.now)) }
+        ensures refused { IfErr result (λ error. error ≡ StreamErr.NoMemory) }
+        ensures whole { OnOk result (NoneLost (losses self.old.unstored.chains) (losses self.new.unstored.chains) → IsCachedWhole self.new key.now) }
+        ensures keeps { (files : Option Files) (m : State) (said : List Change) → ⟦<Shard as Machine>⟧.stands files self.old m → IsSaid m key.now said → IsJoinOf read.now said → ⟦<Shard as Machine>⟧.stands files self.new m }
+        ensures beside { IsCacheUsed self.old self.new }
+    {
+        what_is_left_stays_where_the_snapshots_see_the_same::<131_072>();
+        what_leaves_the_chains_of_both_leaves_their_writes();
+        let schema = self.folder.schema();
+        let _columns = schema.cols();
+        let _entry = schema.largest_entry();
+        let _statics = schema.largest_static();
+        match populate(
+            alloc,
+            &mut self.cache,
+            &mut self.unstored.chains,
+            key,
+            0,
+            read,
+        ) {
+            Ok(()) => stream_read(alloc, read),
+            Err(_) => Err(StreamErr::NoMemory),
+        }
+    }
+
+    // Opens a reader of an id that is not open, over the stream of what the tables say.
     fn open_over(
         &mut self,
         alloc: Global,
         id: u32,
         key: &PartKey,
         slice: &Slice,
-        tables: &Mutation,
+        tables: ListFrags,
     ) -> Result<Reply, AllocError>
-        requires stands { (files : Option Files) × (m : State) × ⟦<Shard as Machine>⟧.stands files self.old m }
+        requires stands { (files : Option Files) × (m : State) × ⟦<Shard as Machine>⟧.stands files self.old m × IsTabled m key.now tables }
         requires unused { position (λ reader. reader.0 == id) self.old.readers.items ≡ None }
         ensures fine { IfOk result (λ reply. reply ≡ Reply.Fine) }
         ensures pins { IfOk result (λ _. IsOnePinned id key.now self.old.readers.items self.old.unstored self.new.readers.items self.new.unstored) }
-        ensures opened { (files : Option Files) (m : State) (said : List Change) → ⟦<Shard as Machine>⟧.stands files self.old m → IsJoinOf tables.now said →
-            IfOk result (λ _. ⟦<Shard as Machine>⟧.stands files self.new (record m { readers = m.readers ++ (id, reader_with m key.now slice.now said) ∷ [] })) }
+        ensures opened { (files : Option Files) (m : State) → ⟦<Shard as Machine>⟧.stands files self.old m → (told : IsTabled m key.now tables) →
+            IfOk result (λ _. ⟦<Shard as Machine>⟧.stands files self.new (record m { readers = m.readers ++ (id, reader_with m key.now slice.now told.said) ∷ [] })) }
+        ensures whole { IfOk result (λ _. IsCachedWhole self.old key.now → IsCachedWhole self.new key.now) }
         ensures err { OnErr result (Keeps ⟦<Shard as Machine>⟧.stands self.old self.new) }
         ensures counts { CountsStay self.old self.new }
     {
@@ -341,6 +480,7 @@ impl Shard {
         ensures faultless { (n : ℕ) → OnFaulty result (Rose n n) }
         ensures counts { CountsStay self.old self.new }
     {
+        what_calls_leave_of_the_cache();
         what_is_left_stays_where_the_snapshots_see_the_same::<131_072>();
         match place_of(self.readers.as_slice(), id) {
             None => Reply::Refused(Refusal::NoReader),
@@ -374,7 +514,7 @@ impl Shard {
         }
     }
 
-    // Writes the sealed writes as a table of this number, which is the next one, and lets them go.
+    // Writes the sealed writes as a table of this number, which is the next one, and lets them go. Their partitions leave the row cache.
     fn write_sealed<W: Store>(
         &mut self,
         alloc: Global,
@@ -384,17 +524,21 @@ impl Shard {
         requires stands { (m : State) × ⟦<Shard as Machine>⟧.stands (W.files store.old) self.old m }
         requires number { IsNextNumber self.old.folder.infos (Some number) }
         ensures written { IfOk result (IsFlushAnswered (W.files store.old) self.old number (W.files store.new) self.new) }
-        ensures err { OnErr result ((self.new.folder ≡ self.old.folder) × IsKept self.old.folder.schema self.old.unstored self.new.unstored × (W.files store.new ≡ W.files store.old)) }
+        ensures err { OnErr result ((self.new.folder ≡ self.old.folder) × (self.new.cache ≡ self.old.cache) × IsKept self.old.folder.schema self.old.unstored self.new.unstored × (W.files store.new ≡ W.files store.old)) }
         ensures faults { FaultsAreCounted result (W.faults store.old) (W.faults store.new) }
         ensures asks { W.asks store.new ≡ W.asks store.old }
         ensures readers { self.new.readers ≡ self.old.readers }
         ensures counts { CountsStay self.old self.new }
     {
         what_a_call_leaves_of_the_room();
+        what_calls_leave_of_the_cache();
+        self.unstored.sealed.known();
         let parts = self.unstored.sealed_partitions(alloc)?;
-        match self.folder.add(alloc, store, number, parts.as_slice()) {
+        let written = parts.as_slice();
+        match self.folder.add(alloc, store, number, written) {
             Ok(()) => {
                 self.unstored.drop_sealed();
+                forget_all(&mut self.cache, &mut self.unstored, written);
                 Ok(Reply::Fine)
             }
             Err(error) => not_written(error),
@@ -402,16 +546,17 @@ impl Shard {
     }
 }
 
-// A reader of a slice of a partition, over what the tables said of it and snapshots of what is written.
+// A reader of a slice of a partition, over the stream of what the tables say of it and snapshots of what is written.
 fn open_in(
     alloc: Global,
     unstored: &mut Unstored<131_072>,
     key: &PartKey,
     slice: &Slice,
-    tables: &Mutation,
+    tables: ListFrags,
 ) -> Result<Opened, AllocError>
-    requires { (schema : SchemaValue) × (writes : List Written) × (later : List Written) × HaveWrites schema unstored.old writes later }
-    ensures gives { (schema : SchemaValue) (writes later : List Written) (said : List Change) → HaveWrites schema unstored.old writes later → IsJoinOf tables.now said →
+    requires kept { (schema : SchemaValue) × (writes : List Written) × (later : List Written) × HaveWrites schema unstored.old writes later }
+    requires whole { (tabled : Change) × IsMutation tabled × (tables ≡ stream_of (fragments tabled)) }
+    ensures gives { (schema : SchemaValue) (writes later : List Written) (tabled : Change) (said : List Change) → HaveWrites schema unstored.old writes later → IsMutation tabled → tables ≡ stream_of (fragments tabled) → IsJoinOf tabled said →
         AreChangesOf schema (changes_to key.now writes) → AreChangesOf schema (changes_to key.now later) →
         IfOk result (λ o. ⟦<Opened as Leaves<Chains<131_072>>>⟧.lines o unstored.new.chains (answer (said ++ (changes_to key.now writes ++ changes_to key.now later)) slice.now)) }
     ensures there { IfOk result (λ o. AreThere unstored.new.chains (snaps_of o)) }
@@ -421,6 +566,7 @@ fn open_in(
     ensures kept { (schema : SchemaValue) → IsKept schema unstored.old unstored.new }
 {
     what_a_call_leaves_of_the_room();
+    what_calls_leave_of_the_cache();
     what_a_snapshot_of_a_key_sees();
     a_snapshot_sees_what_it_saw();
     let snaps = unstored.snapshot(key)?;
@@ -433,11 +579,23 @@ fn open_in(
     }
 }
 
+// The stream of the fragments of what was read of a partition. The only error is want of memory.
+fn stream_read(alloc: Global, read: &Mutation) -> Result<ListFrags, StreamErr>
+    ensures stream { IfOk result (λ list. list ≡ stream_of (fragments read.now)) }
+    ensures refused { IfErr result (λ error. error ≡ StreamErr.NoMemory) }
+{
+    match read.fragments(alloc) {
+        Ok(list) => Ok(ListFrags::new(list)),
+        Err(_) => Err(StreamErr::NoMemory),
+    }
+}
+
 // Empties sparse segments, one after another, at most so many.
 fn compact(unstored: &mut Unstored<131_072>, count: u32)
     ensures { (schema : SchemaValue) → IsKept schema unstored.old unstored.new }
 {
     what_a_call_leaves_of_the_room();
+    what_calls_leave_of_the_cache();
     for _round in 0..count {
         if !unstored.compact_one() {
             return;

@@ -12,6 +12,7 @@ use Rattle.rc_position.specs.Position.{bytes_cmp}
 use Rattle.rc_schema.specs.SchemaValue.{SchemaValue}
 use Rattle.rc_mutation.specs.declared.mutations.Write.{Write}
 use Rattle.rc_core.specs.Chains.{IsPinned}
+use Rattle.rc_memory.specs.Kept.{IsLiveInChains}
 use Rattle.rc_memory.specs.Memory.{IsUntouched, KeptChain, Memory, chain_at, under_new_names}
 use Rattle.rc_memory.specs.laws.Places.{no_some, same_some}
 use Rattle.rc_evict.specs.Lives.{IsSameButSlots}
@@ -118,8 +119,8 @@ moved-more S m n (Some k) told most done tells same = subst (λ x. m.region.move
 pub objects-moved : (m n : Memory) → ((names : List (Ref × Ref)) × Renamed m.region n.region names × (n ≡ under_new_names names n.region m)) → IsUntouched m n → m.region.moved ≤ n.region.moved → AreObjectsMoved m n
 objects-moved m n renamed untouched moved = record { untouched = untouched; budget = renamed.1.budget; live = renamed.1.live; moved = moved }
 
-pub put-left : {S : ℕ} (schema : SchemaValue) (w : Write) (u : Unstored S) (now : List (List ℕ × ℕ)) (mid n : Memory) → IsRoomMade S u.chains mid → IsApplied schema w u.active now mid n → IsPutBehind schema w u (both_in S n u.sealed now)
-put-left schema w u now mid n room applied = record { mid = mid; room = room; applied = applied; sealed = refl }
+pub put-left : {S : ℕ} (schema : SchemaValue) (w : Write) (u : Unstored S) (now : List (List ℕ × ℕ)) (mid n : Memory) → IsRoomMade S u.chains mid → IsLiveInChains mid → IsApplied schema w u.active now mid n → IsPutBehind schema w u (both_in S n u.sealed now)
+put-left schema w u now mid n room live applied = record { mid = mid; room = room; live = live; applied = applied; sealed = refl }
 
 pub full-left : {S : ℕ} (u : Unstored S) (m : Memory) → IsRoomMade S u.chains m → IsNotPut u (in_chains m u)
 full-left u m room = record { room = room; keys = same-keys u m }

@@ -9,3 +9,4 @@ mod Going
 mod Together
 mod Leaving
 mod Making
+mod Evicting

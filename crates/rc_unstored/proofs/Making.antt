@@ -1,4 +1,4 @@
--- What making room leaves of memtables and of what snapshots see.
+-- What evictions, and so making room, leave of memtables and of what snapshots see.
 use Rattle.std.proofs.Common.{◌≡◌, ℕ, List, Option, Some, None, IsSome, refl, sym, ap, ◌∙◌, subst}
 use Rattle.rc_schema.specs.SchemaValue.{SchemaValue}
 use Rattle.rc_mutation.specs.declared.mutations.Write.{Write}
@@ -31,19 +31,19 @@ SparesPinned = (went : List Member) (gone : List ℕ) (old new : Memory) (id j :
 abbrev pub LeavesPins : Type 0
 LeavesPins = (id : ℕ) (went : List Member) (k : KeptChain) → (evicted_of id went k).chain.pins ≡ k.chain.pins
 
-module _ (spares : SparesMemtables) (S : ℕ) (m n : Memory) (rule : IsRecency m) (made : IsRoomMade S m n) where
+module _ (spares : SparesMemtables) (S : ℕ) (m n : Memory) (rule : IsRecency m) (went : List Member) (gone : List ℕ) (evicted : AreEvicted went gone m n) where
   memtable-same : (id : ℕ) (k : KeptChain) → chain_at m id ≡ Some k → k.chain.kind ≡ Memtable → chain_at n id ≡ chain_at m id
-  memtable-same id k there kind = spares made.went made.gone m n id k rule made.evicted there kind ∙ sym there
+  memtable-same id k there kind = spares went gone m n id k rule evicted there kind ∙ sym there
 
   -- ---- what memtables stand for
 
-  pub made-beside : (schema : SchemaValue) (keys : List (List ℕ × ℕ)) (writes : List Write) → HasWrites schema keys m writes → (key : List ℕ) (id : ℕ) → chain_of keys key ≡ Some id → chain_at n id ≡ chain_at m id
-  made-beside schema keys writes h key id e = let k = h.kept key id e in memtable-same id k.0 k.1 k.2.kind
+  pub spared-beside : (schema : SchemaValue) (keys : List (List ℕ × ℕ)) (writes : List Write) → HasWrites schema keys m writes → (key : List ℕ) (id : ℕ) → chain_of keys key ≡ Some id → chain_at n id ≡ chain_at m id
+  spared-beside schema keys writes h key id e = let k = h.kept key id e in memtable-same id k.0 k.1 k.2.kind
 
-  pub both-made : (schema : SchemaValue) (u : Unstored S) → u.chains ≡ m → (writes later : List Write) → HaveWrites schema u writes later → HaveWrites schema (in_chains n u) writes later
-  both-made schema u at writes later h = both-beside schema u n writes later
-      (λ key id e. made-beside schema u.sealed writes (subst (λ (q : Memory). HasWrites schema u.sealed q writes) at h.sealed) key id e ∙ ap (λ (q : Memory). chain_at q id) (sym at))
-      (λ key id e. made-beside schema u.active later (subst (λ (q : Memory). HasWrites schema u.active q later) at h.active) key id e ∙ ap (λ (q : Memory). chain_at q id) (sym at))
+  pub both-spared : (schema : SchemaValue) (u : Unstored S) → u.chains ≡ m → (writes later : List Write) → HaveWrites schema u writes later → HaveWrites schema (in_chains n u) writes later
+  both-spared schema u at writes later h = both-beside schema u n writes later
+      (λ key id e. spared-beside schema u.sealed writes (subst (λ (q : Memory). HasWrites schema u.sealed q writes) at h.sealed) key id e ∙ ap (λ (q : Memory). chain_at q id) (sym at))
+      (λ key id e. spared-beside schema u.active later (subst (λ (q : Memory). HasWrites schema u.active q later) at h.active) key id e ∙ ap (λ (q : Memory). chain_at q id) (sym at))
       h
 
   -- ---- what snapshots see
@@ -58,12 +58,24 @@ module _ (spares : SparesMemtables) (S : ℕ) (m n : Memory) (rule : IsRecency m
     by-pin : (s : Snap) (k : KeptChain) → chain_at m s.chain ≡ Some k → (o : Option ℕ) → pin_at k.chain.pins s.pin ≡ o → IsSome o → HasPin n s.chain s.pin
     by-pin s k there None e on = absurd (cc)
     by-pin s k there (Some j) e on =
-        is-chain (λ q. IsSome (pin_at q.chain.pins s.pin)) (chain_at n s.chain) (evicted_of s.chain made.went k)
-        (pinned made.went made.gone m n s.chain j k made.evicted there (pin-is-pinned k.chain.pins s.pin j e))
-        (subst (λ (ps : List (Option ℕ)). IsSome (pin_at ps s.pin)) (sym (pins s.chain made.went k)) (subst (λ (o : Option ℕ). IsSome o) (sym e) on))
+        is-chain (λ q. IsSome (pin_at q.chain.pins s.pin)) (chain_at n s.chain) (evicted_of s.chain went k)
+        (pinned went gone m n s.chain j k evicted there (pin-is-pinned k.chain.pins s.pin j e))
+        (subst (λ (ps : List (Option ℕ)). IsSome (pin_at ps s.pin)) (sym (pins s.chain went k)) (subst (λ (o : Option ℕ). IsSome o) (sym e) on))
 
     still-there : (s : Snap) → HasPin m s.chain s.pin → HasPin n s.chain s.pin
     still-there s on = let k = some-chain (λ q. IsSome (pin_at q.chain.pins s.pin)) (chain_at m s.chain) on in by-pin s k.0 k.1 (pin_at k.0.chain.pins s.pin) refl k.2
 
-    pub made-seen : AllStillSee m n
-    made-seen = record { see = still-sees; there = still-there }
+    pub spared-seen : AllStillSee m n
+    spared-seen = record { see = still-sees; there = still-there }
+
+-- ---- where room was made
+
+module _ (spares : SparesMemtables) (S : ℕ) (m n : Memory) (rule : IsRecency m) (made : IsRoomMade S m n) where
+  pub made-beside : (schema : SchemaValue) (keys : List (List ℕ × ℕ)) (writes : List Write) → HasWrites schema keys m writes → (key : List ℕ) (id : ℕ) → chain_of keys key ≡ Some id → chain_at n id ≡ chain_at m id
+  made-beside = spared-beside spares S m n rule made.went made.gone made.evicted
+
+  pub both-made : (schema : SchemaValue) (u : Unstored S) → u.chains ≡ m → (writes later : List Write) → HaveWrites schema u writes later → HaveWrites schema (in_chains n u) writes later
+  both-made = both-spared spares S m n rule made.went made.gone made.evicted
+
+  pub made-seen : SparesPinned → LeavesPins → AllStillSee m n
+  made-seen = spared-seen spares S m n rule made.went made.gone made.evicted

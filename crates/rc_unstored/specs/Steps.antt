@@ -8,6 +8,7 @@ use Rattle.std.specs.Prelude.{◌≡◌, ◌≤◌, ℕ, length}
 use Rattle.lsa_region.specs.Region.{live_bytes}
 use Rattle.rc_schema.specs.SchemaValue.{SchemaValue}
 use Rattle.rc_mutation.specs.declared.mutations.Write.{Write}
+use Rattle.rc_memory.specs.Kept.{IsLiveInChains}
 use Rattle.rc_memory.specs.Memory.{IsUntouched, Memory}
 use Rattle.rc_evict.specs.Lives.{IsSameButSlots}
 use Rattle.rc_evict.specs.Evictions.{IsRoomMade}
@@ -26,10 +27,11 @@ pub record AreObjectsMoved (old mid : Memory) : Type 0 where
   pub live : live_bytes mid.region ≡ live_bytes old.region
   pub moved : old.region.moved ≤ mid.region.moved
 
--- room was made, and a write was put behind the later ones
+-- room was made, after which what is live is what all chains take, and a write was put behind the later ones
 pub record IsPutBehind {S : ℕ} (schema : SchemaValue) (w : Write) (old new : Unstored S) : Type 0 where
   pub mid : Memory
   pub room : IsRoomMade S old.chains mid
+  pub live : IsLiveInChains mid
   pub applied : IsApplied schema w old.active new.active mid new.chains
   pub sealed : new.sealed ≡ old.sealed
 

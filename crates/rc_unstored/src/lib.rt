@@ -4,4 +4,6 @@
 pub mod laws;
 mod unstored;
 
+pub use rc_evict::{Room, laws as evict_laws, make_room};
+pub use rc_snapshots::laws as snapshots_laws;
 pub use unstored::Unstored;

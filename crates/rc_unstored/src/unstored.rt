@@ -9,7 +9,8 @@ ghost use Rattle.rc_mutation.specs.declared.mutations.Write.{Write as Written};
 ghost use Rattle.rc_writes.specs.Allowed.{ChangeFits};
 ghost use Rattle.rc_writes.specs.Single.{IsSingle};
 ghost use Rattle.rc_mutation.specs.Fragments.{IsParts};
-ghost use Rattle.rc_memory.specs.Memory.{HasPin, IsEmpty, IsSnapshotTaken, Memory};
+ghost use Rattle.rc_memory.specs.Memory.{HasPin, IsEmpty, IsSnapshotTaken, Member, Memory};
+ghost use Rattle.rc_evict.specs.Evictions.{AreEvicted};
 ghost use Rattle.rc_evict.specs.Snap.{Snap as Snapshot};
 ghost use Rattle.rc_snapshots.specs.Seeing.{AllStillSee, AreSameSnapshots, AreThere, HasSnap, NothingIsLost, OthersStillSee, StillSees};
 ghost use Rattle.rc_memtable.specs.LetGo.{AreLetGo, TakesNoMore};
@@ -21,8 +22,11 @@ ghost use Rattle.rc_unstored.specs.Readers.{IsNoneOf, IsReleased, IsReleasedIf, 
 ghost use Rattle.rc_unstored.specs.Steps.{AreObjectsMoved, AreSameKeys, IsNotPut, IsPutBehind, IsPutRefused};
 
 use lsa_move::a_tight_region_is_nearly_full;
-use rc_evict::laws::{evictions_leave_the_use_of_a_chain, evictions_spare_memtables_and_readers};
-use rc_evict::{Room, make_room};
+use rc_evict::laws::{
+    evictions_follow_one_another, evictions_leave_the_use_of_a_chain,
+    evictions_spare_memtables_and_readers,
+};
+use rc_evict::{Room, evict_one, make_room};
 use rc_memtable::laws::{
     what_is_let_go_takes_no_more, what_leaves_a_memtables_chains_leaves_its_writes,
 };
@@ -107,6 +111,7 @@ impl<const S: usize> Unstored<S> {
                 Ok(false)
             }
             Room::Room => {
+                self.chains.known();
                 self.active.apply(alloc, &mut self.chains, schema, w)?;
                 Ok(true)
             }
@@ -231,6 +236,22 @@ impl<const S: usize> Unstored<S> {
     {
         let _moved = self.chains.region().moved();
         self.chains.compact_one()
+    }
+
+    /// Evicts the least recently used object of the row cache; false exactly where none is left that may be evicted, and then nothing is changed. The writes are those that they were, and memtables' snapshots see what they saw.
+    pub fn evict_one(&mut self) -> bool
+        ensures none { result ≡ false → (self.old.chains.recency ≡ []) × (self.new ≡ self.old) }
+        ensures one { result ≡ true → (place : Member) × (gone : Sequence ℕ) × AreEvicted (place ∷ []) gone self.old.chains self.new.chains }
+        ensures keys { AreSameKeys self.old self.new }
+        ensures room { TakesNoMore self.old.chains self.new.chains }
+        ensures stands { (schema : SchemaValue) (writes later : Sequence Written) → HaveWrites schema self.old writes later → HaveWrites schema self.new writes later }
+        ensures seen { AllStillSee self.old.chains self.new.chains }
+    {
+        evictions_follow_one_another();
+        evictions_leave_the_use_of_a_chain();
+        evictions_spare_memtables_and_readers();
+        self.chains.known();
+        evict_one(&mut self.chains).is_some()
     }
 }
 

@@ -4,14 +4,14 @@
 use Rattle.std.specs.Prelude.{⊤, ℕ}
 use Rattle.std.specs.Option.{option_or}
 use Rattle.rc_memory.specs.Memory.{HasPin, Memory}
-use Rattle.rc_populate.specs.Filling.{MayFill}
+use Rattle.rc_cached.specs.Filling.{MayFill}
 use Rattle.rc_stream.specs.Stream.{Stream}
 use Rattle.rc_cursor.specs.declared.readers.SnapshotReader.{SnapshotReader}
 use Rattle.rc_cursor.specs.Readers.{IsOnlyRead}
 use Rattle.rc_cursor.specs.Snapshots.{IsHeadSeen, IsReadable, Knows}
 use Rattle.rc_cacheread.specs.Sharing.{IsReady, OfBelow, OfFiller, OfKnown, Sees}
-use Rattle.rc_filler.specs.Fillers.{FillerKnows, FillerKnowsStatics, IsFillerReady, losses}
-use Rattle.rc_filler.specs.Stands.{StandsForWrites}
+use Rattle.rc_row_cache.specs.Fillers.{FillerKnows, FillerKnowsStatics, IsFillerReady, losses}
+use Rattle.rc_cached.specs.Stands.{StandsForWrites}
 use Rattle.rc_cached.specs.Below.{DidBelow, LiesBelow, MovesBelow}
 use Rattle.rc_cached.specs.declared.fillers.StreamFiller.{StreamFiller}
 use Rattle.rc_cached.specs.declared.readings.Readings.{Readings}

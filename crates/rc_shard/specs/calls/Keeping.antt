@@ -6,7 +6,7 @@ use Rattle.rc_stream.specs.declared.streams.StreamErr.TheVariants as stream_err
 use Rattle.rc_lines.specs.declared.commands.Refusal.TheVariants.{Damaged, ReadFault}
 use Rattle.rc_lines.specs.declared.commands.Reply.{Reply}
 use Rattle.rc_lines.specs.declared.commands.Reply.TheVariants as replies
-use Rattle.rc_memtable.specs.LetGo.{NoCountFell}
+use Rattle.rc_lookup.specs.LetGo.{NoCountFell}
 use Rattle.rc_machine.specs.State.{State}
 use Rattle.rc_shard.specs.declared.shard.Shard.{Shard}
 

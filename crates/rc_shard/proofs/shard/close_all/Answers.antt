@@ -5,7 +5,7 @@ use Rattle.rc_memory.specs.Memory.{HasPin}
 use Rattle.rc_chain.specs.declared.chains.Snap.{Snap}
 use Rattle.rc_snapshots.specs.declared.snaps.Snaps.{Snaps}
 use Rattle.rc_snapshots.specs.Seeing.{AreThere, StillSees}
-use Rattle.rc_unstored.specs.Readers.{IsNoneOf}
+use Rattle.rc_lookup.specs.Readers.{IsNoneOf}
 use Rattle.rc_opened.specs.declared.opened.Opened.{Opened}
 use Rattle.rc_shard.specs.Stands.{AreOfTwo, AreTwo, holding}
 use Rattle.rc_shard.proofs.Closing.{IsHeld, closed-held, front-two, last-held}

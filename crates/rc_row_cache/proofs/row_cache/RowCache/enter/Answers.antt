@@ -1,12 +1,12 @@
-use Rattle.std.proofs.Common.{◌≤◌, ◌/◌, refl, sym, ◌∙◌, subst, arith}
-use Rattle.std.specs.Prelude.{IfOk, IfSome, Option}
+use Rattle.std.proofs.Common.{inl, ◌≤◌, ◌/◌, refl, sym, ◌∙◌, subst, arith}
+use Rattle.std.specs.Prelude.{IfOk, IfSome, OnErr, Option}
 use Rattle.rc_cell.specs.declared.rows.Row.{Row}
 use Rattle.rc_cell.specs.declared.writes.Tomb.{Tomb}
 use Rattle.rc_rowcode.specs.Spelling.{RowFits}
 use Rattle.rc_version.specs.Versions.{statics_bytes}
-use Rattle.rc_populate.specs.Filling.{given}
+use Rattle.rc_entries.specs.Filling.{given}
 use Rattle.rc_snapshots.specs.laws.Seeing.{all-see}
-use Rattle.rc_row_cache.specs.Calls.{IsEntered, below_entry}
+use Rattle.rc_row_cache.specs.Calls.{IsEnterRefused, IsEntered, below_entry}
 use Rattle.rc_row_cache.specs.Saying.{CacheSays}
 use Rattle.rc_row_cache.proofs.Cache.{pins-same}
 use Rattle.rc_row_cache.proofs.Taking.{same-lost}
@@ -27,6 +27,14 @@ returns-in-Ok-clause-may g c = c.enter_by.ensures.may
 
 pub returns-in-Ok-clause-kept_out : goal.returns-in-Ok-clause-kept_out
 returns-in-Ok-clause-kept_out g c = c.enter_by.ensures.kept_out
+
+pub returns-in-Ok-clause-refused : goal.returns-in-Ok-clause-refused
+returns-in-Ok-clause-refused g c =
+    subst (λ (r : Row). OnErr c.enter_by.result (IsEnterRefused g.row.S c.args.read.now.pt r c.args.phase c.args.chains.now c.enter_by.new.chains)) c.in-Ok.ensures.1
+    (subst (λ (t : Option Tomb). OnErr c.enter_by.result (IsEnterRefused g.row.S t c.in-Ok.head.statics c.args.phase c.args.chains.now c.enter_by.new.chains)) c.in-Ok.ensures.0 c.enter_by.ensures.refused)
+
+pub returns-in-Err-clause-refused : goal.returns-in-Err-clause-refused
+returns-in-Err-clause-refused g c = inl refl
 
 pub returns-in-Ok-clause-others : goal.returns-in-Ok-clause-others
 returns-in-Ok-clause-others g c = c.enter_by.ensures.others

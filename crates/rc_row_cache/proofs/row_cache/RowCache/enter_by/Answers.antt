@@ -1,16 +1,16 @@
-use Rattle.std.proofs.Common.{◌≡◌, ◌+◌, ◌≤◌, ◌/◌, ℕ, List, refl, sym, ap, ◌∙◌, subst, arith}
+use Rattle.std.proofs.Common.{inr, ◌≡◌, ◌+◌, ◌≤◌, ◌/◌, ℕ, List, refl, sym, ap, ◌∙◌, subst, arith}
 use Rattle.lsa_pool.specs.Room.{spare_of}
 use Rattle.rc_schema.specs.SchemaValue.{SchemaValue}
 use Rattle.rc_mutation.specs.declared.mutations.Mutation.{Mutation}
 use Rattle.rc_version.specs.Versions.{statics_bytes}
 use Rattle.rc_memory.specs.Memory.{Memory, chain_at, counts_raised}
-use Rattle.rc_populate.specs.Filling.{IsEntryOpened, given}
+use Rattle.rc_entries.specs.Filling.{IsEntryOpened, given}
 use Rattle.rc_chain.specs.declared.chains.Snap.{Snap}
-use Rattle.rc_row_cache.specs.Calls.{IsEntered, IsKeptOut, IsTakenOf, below_entry}
+use Rattle.rc_row_cache.specs.Calls.{IsEnterRefused, IsEntered, IsKeptOut, IsOpenRefused, IsTakenOf, below_entry}
 use Rattle.rc_row_cache.specs.Saying.{Below, CacheSays}
 use Rattle.rc_entries.specs.Found.{entry_number}
 use Rattle.rc_row_cache.proofs.Cache.{pins-same}
-use Rattle.rc_row_cache.proofs.Entering.{if-none, if-some, same-entries, same-settled, still-absent}
+use Rattle.rc_row_cache.proofs.Entering.{if-none, if-some, on-err, same-entries, same-settled, still-absent}
 use Rattle.rc_row_cache.proofs.Fills.{pins-then}
 use Rattle.rc_row_cache.proofs.Taking.{same-lost}
 use Rattle.rc_row_cache.proofs.row_cache.RowCache.enter_by.Goals as goal
@@ -53,6 +53,14 @@ returns-in-Room-clause-may g c = c.open.ensures.may
 
 pub returns-in-Room-clause-kept_out : goal.returns-in-Room-clause-kept_out
 returns-in-Room-clause-kept_out g c = if-none c.open.result ((entry_number c.open.new.self.entries c.args.key.now ≡ Rattle.std.proofs.Common.None) × IsKeptOut g.row.S c.args.chains.now c.open.new.chains) c.open.ensures.some
+
+pub returns-in-Room-clause-refused : goal.returns-in-Room-clause-refused
+returns-in-Room-clause-refused g c =
+    let old = c.args.chains.now in
+    let made = c.make_room-room.new.chains in
+    let new = c.open.new.chains in
+    on-err c.open.result (IsOpenRefused c.args.head.now.pt c.args.head.now.statics c.args.phase c.forget_dropped.new.chains new) (IsEnterRefused g.row.S c.args.head.now.pt c.args.head.now.statics c.args.phase old new)
+    (λ r. inr (made, c.make_room-room.ensures.made, subst (λ (m : Memory). IsOpenRefused c.args.head.now.pt c.args.head.now.statics c.args.phase m new) c.forget_dropped.ensures.told r)) c.open.ensures.refused
 
 pub returns-in-Room-clause-others : goal.returns-in-Room-clause-others
 returns-in-Room-clause-others g c = λ q id e ne. (c.forget_dropped.ensures.forgotten.left q id (c.open.ensures.others q id e ne)).0

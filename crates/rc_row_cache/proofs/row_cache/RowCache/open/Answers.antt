@@ -1,14 +1,14 @@
-use Rattle.std.proofs.Common.{sym, ap, ◌∙◌, subst, arith}
+use Rattle.std.proofs.Common.{inl, inr, ◌≡◌, sym, ap, ◌∙◌, subst, arith}
 use Rattle.rc_memory.specs.Memory.{Memory, chain_at}
 use Rattle.rc_chain.specs.declared.chains.Snap.{Snap}
 use Rattle.rc_entries.specs.Entries.{AreEntries, AreSettled}
 use Rattle.rc_entries.specs.Found.{entry_number}
-use Rattle.rc_populate.specs.Filling.{MayFill, given}
+use Rattle.rc_entries.specs.Filling.{IsEntryOpened, MayFill, given}
 use Rattle.rc_snapshots.specs.laws.Seeing.{lost-then}
-use Rattle.rc_row_cache.specs.Calls.{IsTakenOf, below_entry}
+use Rattle.rc_row_cache.specs.Calls.{IsOpenRefused, IsTakenOf, below_entry}
 use Rattle.rc_row_cache.specs.Saying.{CacheSays, with_below}
 use Rattle.rc_row_cache.proofs.Cache.{pins-same}
-use Rattle.rc_row_cache.proofs.Entering.{entered-may, entry-here, entry-other, if-some, number-same, opened-lost, opened-pinned, same-entries, same-settled}
+use Rattle.rc_row_cache.proofs.Entering.{entered-may, entry-here, entry-other, if-some, number-same, on-err, opened-lost, opened-pinned, same-entries, same-settled}
 use Rattle.rc_row_cache.proofs.Fills.{pins-then}
 use Rattle.rc_row_cache.proofs.Snapshots.{SnapshotLaws}
 use Rattle.rc_row_cache.proofs.Taking.{same-lost}
@@ -25,6 +25,14 @@ returns-in-Ok-clause-may g c =
     if-some c.snapshot_of.result (IsTakenOf c.args.key.now c.open.new.self c.open.new.chains c.snapshot_of.new.chains) (λ (s : Snap). MayFill c.snapshot_of.new.chains s.chain s.pin)
     (λ s t. entered-may laws c.in-Ok.id c.args.phase c.args.head.now.pt (given c.args.head.now.statics) c.args.chains.now c.open.new.chains c.snapshot_of.new.chains c.in-Ok.ensures.opened s (number-same c.in-Ok.id s.chain (sym here ∙ t.entry)) t.taken)
     c.snapshot_of.ensures.taken
+
+pub returns-in-Ok-clause-refused : goal.returns-in-Ok-clause-refused
+returns-in-Ok-clause-refused g c =
+    on-err c.snapshot_of.result (c.snapshot_of.new.chains ≡ c.open.new.chains) (IsOpenRefused c.args.head.now.pt c.args.head.now.statics c.args.phase c.args.chains.now c.snapshot_of.new.chains)
+    (λ same. inr (c.in-Ok.id, subst (IsEntryOpened c.in-Ok.id c.args.head.now.pt (given c.args.head.now.statics) c.args.phase c.args.chains.now) (sym same) c.in-Ok.ensures.opened)) c.snapshot_of.ensures.err
+
+pub returns-in-Err-clause-refused : goal.returns-in-Err-clause-refused
+returns-in-Err-clause-refused g c = inl c.in-Err.ensures.err
 
 pub returns-in-Ok-clause-others : goal.returns-in-Ok-clause-others
 returns-in-Ok-clause-others g c = entry-other c.each_key_is_found.ensures.added c.args.self.now.entries c.open.new.self c.args.key.now c.in-Ok.id c.requires.absent c.in-Ok.ensures.added

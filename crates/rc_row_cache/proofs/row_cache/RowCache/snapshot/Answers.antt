@@ -3,7 +3,7 @@ use Rattle.std.specs.Prelude.{IfOk, IfSome}
 use Rattle.rc_schema.specs.SchemaValue.{SchemaValue}
 use Rattle.rc_memory.specs.Memory.{Memory, chain_at}
 use Rattle.rc_chain.specs.declared.chains.Snap.{Snap}
-use Rattle.rc_populate.specs.Filling.{MayFill}
+use Rattle.rc_entries.specs.Filling.{MayFill}
 use Rattle.rc_row_cache.specs.Saying.{Below, CacheSays}
 use Rattle.rc_row_cache.proofs.Cache.{pins-same}
 use Rattle.rc_row_cache.proofs.Fills.{pins-then}

@@ -4,7 +4,7 @@ use Rattle.rc_memory.specs.Memory.{HasPin}
 use Rattle.rc_chain.specs.declared.chains.Snap.{Snap}
 use Rattle.rc_snapshots.specs.declared.snaps.Snaps.{Snaps}
 use Rattle.rc_snapshots.specs.Seeing.{AreThere, StillSees}
-use Rattle.rc_unstored.specs.Readers.{IsNoneOf}
+use Rattle.rc_lookup.specs.Readers.{IsNoneOf}
 use Rattle.rc_opened.specs.declared.opened.Opened.{Opened}
 use Rattle.rc_shard.specs.declared.shard.Shard.{Shard}
 use Rattle.rc_shard.specs.Stands.{AreOfTwo}
@@ -27,10 +27,13 @@ returns-in-None-clause-step c = λ files.
 pub returns-in-Some-clause-step : goal.returns-in-Some-clause-step
 returns-in-Some-clause-step c = λ files.
     let at = place-of c.args.id c.args.self.now.readers.items c.in-Some.at (subst (λ (os : List (ℕ × Opened)). position (λ reader. reader.0 == c.args.id) os ≡ Some c.in-Some.at) c.as_slice.ensures.value (sym c.in-Some.ensures)) in
+    let s = c.requires in
+    let f = found-at _ s.0 c.args.self.now s.1 c.args.id c.in-Some.at c.remove-id.result s.2 at (sym c.remove-id.ensures.value) in
+    let r = c.release_both.ensures.released in
     let new : Shard = record c.args.self.now { unstored = c.release_both.new.self; readers = c.remove-id.new.self } in
-    takes-close _ c.what_is_left_stays_where_the_snapshots_see_the_same.ensures files c.args.self.now new c.args.id c.in-Some.at c.remove-id.result at (sym c.remove-id.ensures.value) refl refl c.remove-id.ensures.items c.release_both.ensures.stands
+    takes-close _ c.what_is_left_stays_where_the_snapshots_see_the_same.ensures files c.args.self.now new c.args.id c.in-Some.at c.remove-id.result at (sym c.remove-id.ensures.value) refl refl refl c.remove-id.ensures.items c.release_both.ensures.stands
     (subst (λ (x : Snaps). (s : Snap) → IsNoneOf x s → HasPin c.args.self.now.unstored.chains s.chain s.pin → StillSees s c.args.self.now.unstored.chains c.release_both.new.self.chains) c.into_snaps.ensures c.release_both.ensures.others)
-    c.release_both.ensures.room
+    c.release_both.ensures.room (c.what_calls_leave_of_the_cache.ensures.back c.args.self.now.unstored.chains r.0 c.release_both.new.self.chains c.into_snaps.result (subst (AreThere c.args.self.now.unstored.chains) (sym c.into_snaps.ensures) f.there) (subst AreOfTwo (sym c.into_snaps.ensures) f.chains) r.1 r.2)
 
 pub returns-in-None-clause-counts : goal.returns-in-None-clause-counts
 returns-in-None-clause-counts c = counts-itself c.args.self.now

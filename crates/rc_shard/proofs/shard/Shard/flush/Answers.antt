@@ -6,8 +6,9 @@ use Rattle.rc_shard.specs.declared.shard.Shard.{Shard}
 use Rattle.rc_shard.proofs.Flushing.{not-true, sealed-for, stops-sealed, takes-no-flush, takes-written}
 use Rattle.rc_shard.proofs.Standing.{if-ok-weaker, on-err-weaker}
 use Rattle.rc_shard.proofs.shard.Shard.flush.Goals as goal
+use Rattle.rc_lookup.specs.RowCache.{RowCache}
 use Rattle.rc_memory.specs.Memory.{Memory}
-use Rattle.rc_memtable.specs.LetGo.{NoCountFell}
+use Rattle.rc_lookup.specs.LetGo.{NoCountFell}
 use Rattle.rc_shard.proofs.Counted.{counts-itself}
 
 pub returns-then-is_empty-clause-step : goal.returns-then-is_empty-clause-step
@@ -17,7 +18,7 @@ pub write_sealed-requires-clause-stands : goal.write_sealed-requires-clause-stan
 write_sealed-requires-clause-stands g c =
     let sealed : Shard = record c.args.self.now { unstored = c.seal.new.self } in
     let m : State = c.requires.0 in
-    (record m { sealed = sealing m }, sealed-for _ (g.W.Store.files c.args.store.now) c.args.self.now sealed m refl refl refl c.seal.ensures.chains c.seal.ensures.sealed c.seal.ensures.kept c.requires.1)
+    (record m { sealed = sealing m }, sealed-for _ (g.W.Store.files c.args.store.now) c.args.self.now sealed m refl refl refl refl c.seal.ensures.chains c.seal.ensures.sealed c.seal.ensures.kept c.requires.1)
 
 pub returns-in-Some-clause-step : goal.returns-in-Some-clause-step
 returns-in-Some-clause-step g c =
@@ -26,7 +27,7 @@ returns-in-Some-clause-step g c =
     if-ok-weaker c.write_sealed.result _ _
     (λ reply written. takes-written _ c.what_is_left_stays_where_the_snapshots_see_the_same.ensures files (g.W.Store.files c.write_sealed.new.store) c.args.self.now sealed c.write_sealed.new.self c.in-Some.number
     (λ schema writes later h e. not-true _ c.if-is_empty.false ((c.is_empty.ensures schema writes later h).1 e)) c.in-Some.ensures
-    (λ m s. sealed-for _ files c.args.self.now sealed m refl refl refl c.seal.ensures.chains c.seal.ensures.sealed c.seal.ensures.kept s) c.write_sealed.ensures.counts.segments (ap (λ v. v.items) c.write_sealed.ensures.readers) reply refl written)
+    (λ m s. sealed-for _ files c.args.self.now sealed m refl refl refl refl c.seal.ensures.chains c.seal.ensures.sealed c.seal.ensures.kept s) c.write_sealed.ensures.counts.segments (ap (λ v. v.items) c.write_sealed.ensures.readers) reply refl written)
     c.write_sealed.ensures.written
 
 pub returns-in-Some-clause-err : goal.returns-in-Some-clause-err
@@ -35,7 +36,7 @@ returns-in-Some-clause-err g c =
     let sealed : Shard = record c.args.self.now { unstored = c.seal.new.self } in
     on-err-weaker c.write_sealed.result _ _
     (λ kept. stops-sealed _ c.what_is_left_stays_where_the_snapshots_see_the_same.ensures files (g.W.Store.files c.write_sealed.new.store) c.args.self.now sealed c.write_sealed.new.self
-    (λ m s. sealed-for _ files c.args.self.now sealed m refl refl refl c.seal.ensures.chains c.seal.ensures.sealed c.seal.ensures.kept s) kept.0 c.write_sealed.ensures.counts.segments (ap (λ v. v.items) c.write_sealed.ensures.readers) kept.1 kept.2)
+    (λ m s. sealed-for _ files c.args.self.now sealed m refl refl refl refl c.seal.ensures.chains c.seal.ensures.sealed c.seal.ensures.kept s) kept.0 (ap (λ (k : RowCache). k.entries) kept.1) c.write_sealed.ensures.counts.segments (ap (λ v. v.items) c.write_sealed.ensures.readers) kept.2 kept.3)
     c.write_sealed.ensures.err
 
 pub returns-then-is_empty-clause-counts : goal.returns-then-is_empty-clause-counts

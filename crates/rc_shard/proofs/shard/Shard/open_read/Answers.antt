@@ -1,12 +1,14 @@
--- A reader is opened, where its id is not open and fewer are than may be, and what the tables say can be read.
-use Rattle.std.proofs.Common.{◌≡◌, ◌==◌, ◌<◌, ◌≤◌, ℕ, List, length, position, subst, arith}
+-- A reader is opened, where its id is not open and fewer are than may be, and what the tables say is known or can be read.
+use Rattle.std.proofs.Common.{◌≡◌, ◌==◌, ◌<◌, ◌≤◌, ℕ, List, None, length, position, sym, ap, subst, arith}
 use Rattle.rc_opened.specs.declared.opened.Opened.{Opened}
 use Rattle.rc_machine.specs.Steps.{most_readers}
-use Rattle.rc_shard.proofs.Pinned.{told-opened, told-unread}
+use Rattle.rc_shard.proofs.Counted.{counts-itself}
+use Rattle.rc_shard.proofs.Looking.{counts-behind, counts-used, lost-within, no-count}
+use Rattle.rc_shard.proofs.Pinned.{filled-opened, filled-unread, told-opened, told-unread}
 use Rattle.rc_shard.proofs.Places.{nowhere-of, open-none, open-some}
+use Rattle.rc_shard.proofs.Standing.{on-err, on-err-weaker}
 use Rattle.rc_shard.proofs.Taking.{opened-of, takes-in-use, takes-too-many, unread-faults, unread-of}
 use Rattle.rc_shard.proofs.shard.Shard.open_read.Goals as goal
-use Rattle.rc_shard.proofs.Counted.{counts-itself}
 
 pub returns-then-is_some-clause-step : goal.returns-then-is_some-clause-step
 returns-then-is_some-clause-step g c =
@@ -19,24 +21,43 @@ returns-then-len-ge-MOST_READERS-clause-step g c =
     let many : most_readers ≤ length c.args.self.now.readers.items = omega (arith, c.if-len-ge-MOST_READERS.true, c.len.ensures, c.args.self.now.readers.ok) in
     takes-too-many _ (g.W.Store.files c.args.store.now) c.args.self.now c.args.id c.args.key.now c.args.slice.now (nowhere-of c.args.id c.args.self.now.readers.items shut) many
 
+pub open_over-requires-clause-stands : goal.open_over-requires-clause-stands
+open_over-requires-clause-stands g c =
+    let s = c.requires.1 in
+    (g.W.Store.files c.args.store.now, c.requires.0, c.tables_of.ensures.keeps c.requires.0 s, c.in-Ok.ensures.says c.requires.0 s)
+
+pub open_over-requires-clause-unused : goal.open_over-requires-clause-unused
+open_over-requires-clause-unused g c =
+    let shut = open-none c.args.id c.args.self.now.readers.items c.place_of.result (subst (λ (os : List (ℕ × Opened)). c.place_of.result ≡ position (λ reader. reader.0 == c.args.id) os) c.as_slice.ensures.value c.place_of.ensures) c.if-is_some.ensures in
+    subst (λ (os : List (ℕ × Opened)). position (λ reader. reader.0 == c.args.id) os ≡ None) (sym (ap (λ readers. readers.items) c.tables_of.ensures.beside.readers)) shut
+
 pub returns-in-Ok-clause-step : goal.returns-in-Ok-clause-step
 returns-in-Ok-clause-step g c =
     let files = g.W.Store.files c.args.store.now in
+    let files' = g.W.Store.files c.tables_of.new.store in
     let shut = open-none c.args.id c.args.self.now.readers.items c.place_of.result (subst (λ (os : List (ℕ × Opened)). c.place_of.result ≡ position (λ reader. reader.0 == c.args.id) os) c.as_slice.ensures.value c.place_of.ensures) c.if-is_some.ensures in
     let few : length c.args.self.now.readers.items < most_readers = omega (arith, c.if-len-ge-MOST_READERS.false, c.len.ensures, c.args.self.now.readers.ok) in
-    opened-of _ files _ c.args.self.now c.open_over.new.self c.args.id c.args.key.now c.args.slice.now c.in-Ok.tables c.open_over.result c.read.ensures.store.0 (nowhere-of c.args.id c.args.self.now.readers.items shut) few (λ m over. c.in-Ok.ensures.said m over)
-    c.open_over.ensures.fine (λ m said s j. c.open_over.ensures.opened files m said s j)
+    opened-of _ files files' c.args.self.now c.open_over.new.self c.args.id c.args.key.now c.args.slice.now c.open_over.result c.tables_of.ensures.store.0 (nowhere-of c.args.id c.args.self.now.readers.items shut) few c.open_over.ensures.fine
+    (λ m s. (let told = c.in-Ok.ensures.says m s in (told.said, told.of_tables, c.open_over.ensures.opened files m (c.tables_of.ensures.keeps m s) told)))
 
 pub returns-in-Err-clause-step : goal.returns-in-Err-clause-step
 returns-in-Err-clause-step g c =
     let files = g.W.Store.files c.args.store.now in
     let shut = open-none c.args.id c.args.self.now.readers.items c.place_of.result (subst (λ (os : List (ℕ × Opened)). c.place_of.result ≡ position (λ reader. reader.0 == c.args.id) os) c.as_slice.ensures.value c.place_of.ensures) c.if-is_some.ensures in
     let few : length c.args.self.now.readers.items < most_readers = omega (arith, c.if-len-ge-MOST_READERS.false, c.len.ensures, c.args.self.now.readers.ok) in
-    unread-of _ files (g.W.Store.files c.read.new.store) c.args.self.now c.args.id c.args.key.now c.args.slice.now c.in-Err.error (g.W.Store.faults c.args.store.now) (g.W.Store.faults c.read.new.store) c.not_read.result c.read.ensures.store.0 (nowhere-of c.args.id c.args.self.now.readers.items shut) few
-    c.in-Err.ensures.damaged c.in-Err.ensures.cause c.not_read.ensures
+    unread-of _ files (g.W.Store.files c.tables_of.new.store) c.args.self.now c.tables_of.new.self c.args.id c.args.key.now c.args.slice.now c.in-Err.error (g.W.Store.faults c.args.store.now) (g.W.Store.faults c.tables_of.new.store) c.not_read.result c.tables_of.ensures.store.0 (nowhere-of c.args.id c.args.self.now.readers.items shut) few
+    (λ m s. c.tables_of.ensures.keeps m s) c.in-Err.ensures.damaged c.in-Err.ensures.cause c.not_read.ensures
+
+pub returns-in-Ok-clause-err : goal.returns-in-Ok-clause-err
+returns-in-Ok-clause-err g c = on-err-weaker c.open_over.result _ _ (λ keeps m s. keeps (g.W.Store.files c.args.store.now) m (c.tables_of.ensures.keeps m s)) c.open_over.ensures.err
+
+pub returns-in-Err-clause-err : goal.returns-in-Err-clause-err
+returns-in-Err-clause-err g c = on-err c.not_read.result _ (λ m s. c.tables_of.ensures.keeps m s)
 
 pub returns-in-Err-clause-faults : goal.returns-in-Err-clause-faults
-returns-in-Err-clause-faults g c = unread-faults (g.W.Store.files c.args.store.now) c.in-Err.error (g.W.Store.faults c.args.store.now) (g.W.Store.faults c.read.new.store) c.not_read.result c.in-Err.ensures.cause c.not_read.ensures
+returns-in-Err-clause-faults g c = unread-faults (g.W.Store.files c.args.store.now) c.in-Err.error (g.W.Store.faults c.args.store.now) (g.W.Store.faults c.tables_of.new.store) c.not_read.result c.in-Err.ensures.cause c.not_read.ensures
+
+-- ---- counts
 
 pub returns-then-is_some-clause-counts : goal.returns-then-is_some-clause-counts
 returns-then-is_some-clause-counts g c = counts-itself c.args.self.now
@@ -44,11 +65,38 @@ returns-then-is_some-clause-counts g c = counts-itself c.args.self.now
 pub returns-then-len-ge-MOST_READERS-clause-counts : goal.returns-then-len-ge-MOST_READERS-clause-counts
 returns-then-len-ge-MOST_READERS-clause-counts g c = counts-itself c.args.self.now
 
+pub returns-in-Ok-clause-counts : goal.returns-in-Ok-clause-counts
+returns-in-Ok-clause-counts g c = counts-behind c.args.self.now c.tables_of.new.self c.open_over.new.self c.tables_of.ensures.beside c.open_over.ensures.counts
+
 pub returns-in-Err-clause-counts : goal.returns-in-Err-clause-counts
-returns-in-Err-clause-counts g c = counts-itself c.args.self.now
+returns-in-Err-clause-counts g c = counts-used c.args.self.now c.tables_of.new.self c.tables_of.ensures.beside
+
+-- ---- what is pinned, and what is known
 
 pub returns-in-Ok-clause-pins : goal.returns-in-Ok-clause-pins
-returns-in-Ok-clause-pins g c = told-opened c.args.id c.args.key.now c.args.slice.now c.args.self.now.readers.items c.args.self.now.unstored c.open_over.new.self.readers.items c.open_over.new.self.unstored c.open_over.result c.open_over.ensures.fine c.open_over.ensures.pins
+returns-in-Ok-clause-pins g c =
+    let mid = c.tables_of.new.self in
+    let beside = c.tables_of.ensures.beside in
+    told-opened c.args.id c.args.key.now c.args.slice.now c.args.self.now.readers.items c.args.self.now.unstored c.open_over.new.self.readers.items c.open_over.new.self.unstored mid.readers.items mid.unstored c.open_over.result
+    (ap (λ readers. readers.items) beside.readers) beside.rest beside.keys c.open_over.ensures.fine c.open_over.ensures.pins
 
 pub returns-in-Err-clause-pins : goal.returns-in-Err-clause-pins
-returns-in-Err-clause-pins g c = told-unread c.args.id c.args.key.now c.args.slice.now c.args.self.now.readers.items c.args.self.now.unstored c.args.self.now.readers.items c.args.self.now.unstored c.in-Err.error c.not_read.result c.not_read.ensures
+returns-in-Err-clause-pins g c =
+    told-unread c.args.id c.args.key.now c.args.slice.now c.args.self.now.readers.items c.args.self.now.unstored c.tables_of.new.self.readers.items c.tables_of.new.self.unstored c.in-Err.error c.not_read.result c.not_read.ensures
+
+pub returns-in-Ok-clause-known : goal.returns-in-Ok-clause-known
+returns-in-Ok-clause-known g c = λ whole. c.tables_of.ensures.known whole
+
+pub returns-in-Err-clause-known : goal.returns-in-Err-clause-known
+returns-in-Err-clause-known g c = λ whole. c.tables_of.ensures.known whole
+
+pub returns-in-Ok-clause-filled : goal.returns-in-Ok-clause-filled
+returns-in-Ok-clause-filled g c =
+    let old = c.args.self.now.unstored.chains in
+    let mid = c.tables_of.new.self.unstored.chains in
+    let new = c.open_over.new.self.unstored.chains in
+    filled-opened c.args.id c.args.key.now c.args.slice.now c.args.self.now c.tables_of.new.self c.open_over.new.self c.open_over.result c.open_over.ensures.fine c.open_over.ensures.whole
+    (λ none. c.in-Ok.ensures.whole (lost-within old old mid new (no-count old) c.tables_of.ensures.beside.rest.counts c.open_over.ensures.counts.none_fell none))
+
+pub returns-in-Err-clause-filled : goal.returns-in-Err-clause-filled
+returns-in-Err-clause-filled g c = filled-unread c.args.id c.args.key.now c.args.slice.now c.args.self.now c.tables_of.new.self c.in-Err.error c.not_read.result c.not_read.ensures

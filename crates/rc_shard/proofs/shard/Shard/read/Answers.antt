@@ -3,7 +3,7 @@ use Rattle.std.proofs.Common.{◌≡◌, ◌==◌, ℕ, List, Some, None, positi
 use Rattle.std.specs.Vec.{with_item}
 use Rattle.rc_machine.specs.State.{rest_of}
 use Rattle.rc_memory.specs.Memory.{Memory}
-use Rattle.rc_unstored.specs.Memtables.{in_chains}
+use Rattle.rc_lookup.specs.Memtables.{in_chains}
 use Rattle.rc_opened.specs.declared.opened.Opened.{Opened}
 use Rattle.rc_shard.specs.declared.shard.Shard.{Shard}
 use Rattle.rc_shard.proofs.Places.{nowhere-of, place-of}
@@ -26,7 +26,7 @@ returns-in_err-lines-in-Some-clause-err c =
     let same : pair.0 ≡ c.index_mut-reader.result.now.0 = refl in
     let new : Shard = record c.args.self.now { unstored = in_chains c.read.new.chains c.args.self.now.unstored; readers = with_item c.args.self.now.readers c.in-Some.at pair } in
     on-err _ _ (keeps-read _ c.args.self.now new c.args.id c.in-Some.at c.index_mut-reader.result.now pair at (sym c.index_mut-reader.ensures.value) c.in_err-lines-in-Some.ensures.left same c.read.ensures.snaps
-    refl (ap (λ (x : Memory). in_chains x c.args.self.now.unstored) c.read.ensures.chains) refl refl)
+    refl refl (ap (λ (x : Memory). in_chains x c.args.self.now.unstored) c.read.ensures.chains) refl refl)
 
 pub returns-in-None-clause-step : goal.returns-in-None-clause-step
 returns-in-None-clause-step c = λ files.
@@ -40,7 +40,7 @@ returns-in_ok-lines-in-Some-clause-step c = λ files.
     let new : Shard = record c.args.self.now { unstored = in_chains c.read.new.chains c.args.self.now.unstored; readers = with_item c.args.self.now.readers c.in-Some.at pair } in
     takes-read _ files c.args.self.now new c.args.id c.args.count c.in-Some.at c.index_mut-reader.result.now pair c.in_ok-lines-in-Some.lines c.in_ok-lines-in-Some.more at (sym c.index_mut-reader.ensures.value)
     c.in_ok-lines-in-Some.ensures.gives c.in_ok-lines-in-Some.ensures.more c.in_ok-lines-in-Some.ensures.left same c.read.ensures.snaps
-    refl (ap (λ (x : Memory). in_chains x c.args.self.now.unstored) c.read.ensures.chains) refl refl
+    refl refl (ap (λ (x : Memory). in_chains x c.args.self.now.unstored) c.read.ensures.chains) refl refl
 
 pub returns-in_err-lines-in-Some-clause-counts : goal.returns-in_err-lines-in-Some-clause-counts
 returns-in_err-lines-in-Some-clause-counts c = record { answered = refl; segments = refl; asked = refl; none_fell = (no-more-same c.args.self.now.unstored.chains c.read.new.chains c.read.ensures.chains).counts }

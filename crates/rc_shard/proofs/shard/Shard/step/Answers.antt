@@ -20,7 +20,7 @@ pub returns-in-OpenRead-clause-step : goal.returns-in-OpenRead-clause-step
 returns-in-OpenRead-clause-step g c = rw (c.in-OpenRead.is) c.open_read.ensures.step
 
 pub returns-in-OpenRead-clause-err : goal.returns-in-OpenRead-clause-err
-returns-in-OpenRead-clause-err g c = rw (c.in-OpenRead.is) (on-err-weaker c.open_read.result _ _ (λ keeps m s. (m, refl, keeps-files _ _ _ c.open_read.new.self m c.open_read.ensures.store.0 (keeps (g.W.Store.files c.args.store.now) m s))) c.open_read.ensures.err)
+returns-in-OpenRead-clause-err g c = rw (c.in-OpenRead.is) (on-err-weaker c.open_read.result _ _ (λ keeps m s. (m, refl, keeps-files _ _ _ c.open_read.new.self m c.open_read.ensures.store.0 (keeps m s))) c.open_read.ensures.err)
 
 pub returns-in-Read-clause-step : goal.returns-in-Read-clause-step
 returns-in-Read-clause-step g c = rw (c.in-Read.is) (c.read.ensures.step (g.W.Store.files c.args.store.now))
@@ -31,6 +31,9 @@ returns-in-Read-clause-err g c = rw (c.in-Read.is) (on-err-weaker c.read.result 
 pub returns-in-Close-clause-step : goal.returns-in-Close-clause-step
 returns-in-Close-clause-step g c = rw (c.in-Close.is) (c.close_reader.ensures.step (g.W.Store.files c.args.store.now))
 
+pub returns-in-Flush-clause-step : goal.returns-in-Flush-clause-step
+returns-in-Flush-clause-step g c = rw (c.in-Flush.is) c.flush.ensures.step
+
 pub returns-in-Flush-clause-err : goal.returns-in-Flush-clause-err
 returns-in-Flush-clause-err g c = rw (c.in-Flush.is) c.flush.ensures.err
 
@@ -38,7 +41,7 @@ pub returns-in-Compact-clause-step : goal.returns-in-Compact-clause-step
 returns-in-Compact-clause-step g c =
     let files = g.W.Store.files c.args.store.now in
     let new : Shard = record c.args.self.now { unstored = c.compact.new.unstored } in
-    let keeps = keeps-kept _ c.what_is_left_stays_where_the_snapshots_see_the_same.ensures c.args.self.now new refl refl refl (λ schema e. c.compact.ensures schema) in
+    let keeps = keeps-kept _ c.what_is_left_stays_where_the_snapshots_see_the_same-in-Compact.ensures c.args.self.now new refl refl refl refl (λ schema e. c.compact.ensures schema) in
     rw (c.in-Compact.is) (λ m s. (m, (refl, refl), keeps files m s))
 
 -- what is counted
@@ -83,3 +86,53 @@ returns-in-Read-clause-pins g c = rw (c.in-Read.is) (if-ok-all c.read.result _ (
 
 pub returns-in-Flush-clause-pins : goal.returns-in-Flush-clause-pins
 returns-in-Flush-clause-pins g c = rw (c.in-Flush.is) (if-ok-all c.flush.result _ (λ reply. tt))
+
+pub returns-in-Put-clause-known : goal.returns-in-Put-clause-known
+returns-in-Put-clause-known g c = rw (c.in-Put.is) tt
+
+pub returns-in-Put-clause-filled : goal.returns-in-Put-clause-filled
+returns-in-Put-clause-filled g c = rw (c.in-Put.is) (if-ok-all c.put.result _ (λ reply. tt))
+
+pub returns-in-Read-clause-known : goal.returns-in-Read-clause-known
+returns-in-Read-clause-known g c = rw (c.in-Read.is) tt
+
+pub returns-in-Read-clause-filled : goal.returns-in-Read-clause-filled
+returns-in-Read-clause-filled g c = rw (c.in-Read.is) (if-ok-all c.read.result _ (λ reply. tt))
+
+pub returns-in-Flush-clause-known : goal.returns-in-Flush-clause-known
+returns-in-Flush-clause-known g c = rw (c.in-Flush.is) tt
+
+pub returns-in-Flush-clause-filled : goal.returns-in-Flush-clause-filled
+returns-in-Flush-clause-filled g c = rw (c.in-Flush.is) (if-ok-all c.flush.result _ (λ reply. tt))
+
+pub returns-in-OpenRead-clause-known : goal.returns-in-OpenRead-clause-known
+returns-in-OpenRead-clause-known g c = rw (c.in-OpenRead.is) (λ whole. c.open_read.ensures.known whole)
+
+pub returns-in-OpenRead-clause-filled : goal.returns-in-OpenRead-clause-filled
+returns-in-OpenRead-clause-filled g c = rw (c.in-OpenRead.is) c.open_read.ensures.filled
+
+-- what is evicted
+pub returns-in-Evict-clause-step : goal.returns-in-Evict-clause-step
+returns-in-Evict-clause-step g c =
+    let files = g.W.Store.files c.args.store.now in
+    let new : Shard = record c.args.self.now { unstored = c.evict.new.unstored } in
+    let keeps = keeps-kept _ c.what_is_left_stays_where_the_snapshots_see_the_same.ensures c.args.self.now new refl refl refl refl (λ schema e. c.evict.ensures.kept schema) in
+    rw (c.in-Evict.is) (λ m s. (m, (refl, refl), keeps files m s))
+
+pub returns-in-Evict-clause-counts : goal.returns-in-Evict-clause-counts
+returns-in-Evict-clause-counts g c = record { answered = refl; segments = refl; asked = refl; none_fell = (c.evict.ensures.kept c.args.self.now.folder.schema).room.counts }
+
+pub returns-in-Evict-clause-evicts : goal.returns-in-Evict-clause-evicts
+returns-in-Evict-clause-evicts g c = rw (c.in-Evict.is) c.evict.ensures.evicted
+
+pub returns-in-Put-clause-evicts : goal.returns-in-Put-clause-evicts
+returns-in-Put-clause-evicts g c = rw (c.in-Put.is) tt
+
+pub returns-in-OpenRead-clause-evicts : goal.returns-in-OpenRead-clause-evicts
+returns-in-OpenRead-clause-evicts g c = rw (c.in-OpenRead.is) tt
+
+pub returns-in-Read-clause-evicts : goal.returns-in-Read-clause-evicts
+returns-in-Read-clause-evicts g c = rw (c.in-Read.is) tt
+
+pub returns-in-Flush-clause-evicts : goal.returns-in-Flush-clause-evicts
+returns-in-Flush-clause-evicts g c = rw (c.in-Flush.is) tt

@@ -1,5 +1,5 @@
 -- The parts of the sealed writes fit a table, and the number is no file's; then they stand in it.
-use Rattle.std.proofs.Common.{◌≡◌, inl, inr, All, List, refl, sym, subst, arith}
+use Rattle.std.proofs.Common.{◌≡◌, ◌∙◌, [], inl, inr, All, List, refl, sym, subst, arith}
 use Rattle.rc_mutation.specs.declared.mutations.Partition.{Partition}
 use Rattle.rc_mutation.specs.Source.{IsMutation}
 use Rattle.rc_snapshots.specs.laws.Seeing.{all-see, lost-then}
@@ -7,17 +7,21 @@ use Rattle.rc_tfile.specs.TableText.{PartsFit}
 use Rattle.rc_folder.specs.Tabled.{IsAdded}
 use Rattle.rc_shard.specs.calls.Storing.{IsKept}
 use Rattle.rc_shard.proofs.Flushing.{no-file, parts-of-sealed}
-use Rattle.rc_memtable.specs.laws.NoMore.{counts-then, no-more-then}
+use Rattle.rc_lookup.specs.Writes.{DoAscend}
+use Rattle.rc_lookup.specs.NoMore.{counts-then, no-more-then}
+use Rattle.rc_shard.specs.calls.Caching.{Forgets}
+use Rattle.rc_shard.proofs.Caching.{keeps-then}
+use Rattle.rc_shard.proofs.Forgotten.{forgets-behind}
 use Rattle.rc_shard.proofs.Standing.{if-ok-weaker, on-err, room-kept}
 use Rattle.rc_shard.proofs.shard.Shard.write_sealed.Goals as goal
 
 pub add-requires-clause-fit : goal.add-requires-clause-fit
-add-requires-clause-fit g c = subst (λ (parts : List Partition). PartsFit c.args.self.now.folder.schema parts) (sym c.as_slice.ensures.value) (parts-of-sealed _ (g.W.Store.files c.args.store.now) c.args.self.now c.in_ok-parts.parts.items c.requires.stands c.in_ok-parts.ensures.parts)
+add-requires-clause-fit g c = subst (λ (parts : List Partition). PartsFit c.args.self.now.folder.schema parts) (sym c.as_slice-written.ensures.value) (parts-of-sealed _ (g.W.Store.files c.args.store.now) c.args.self.now c.in_ok-parts.parts.items c.requires.stands c.in_ok-parts.ensures.parts)
 
 pub add-requires-clause-mutations : goal.add-requires-clause-mutations
 add-requires-clause-mutations g c =
     let h = c.requires.stands.1.have in
-    subst (λ (parts : List Partition). All (λ p. IsMutation p.change) parts) (sym c.as_slice.ensures.value) (c.in_ok-parts.ensures.parts c.args.self.now.folder.schema h.sealed h.later h.have).mutations
+    subst (λ (parts : List Partition). All (λ p. IsMutation p.change) parts) (sym c.as_slice-written.ensures.value) (c.in_ok-parts.ensures.parts c.args.self.now.folder.schema h.sealed h.later h.have).mutations
 
 pub add-requires-clause-fresh : goal.add-requires-clause-fresh
 add-requires-clause-fresh g c = no-file _ (g.W.Store.files c.args.store.now) c.args.self.now c.args.number c.requires.stands c.requires.number
@@ -33,31 +37,45 @@ returns-in-Ok-clause-written g c = inl (
   record {
     parts = c.in_ok-parts.parts.items;
     of_writes = λ schema writes later h. c.in_ok-parts.ensures.parts schema writes later h;
-    added = subst (λ (parts : List Partition). IsAdded (g.W.Store.files c.args.store.now) c.args.self.now.folder c.args.number parts (g.W.Store.files c.add.new.store) c.add.new.self) c.as_slice.ensures.value c.in-Ok.ensures.added;
-    gone = λ schema writes later h. c.drop_sealed.ensures.gone schema writes later (c.sealed_partitions.ensures.stands schema writes later h);
-    seen = all-see c.args.self.now.unstored.chains c.drop_sealed.new.self.chains (lost-then c.args.self.now.unstored.chains c.sealed_partitions.new.self.chains c.drop_sealed.new.self.chains c.sealed_partitions.ensures.seen.alike c.drop_sealed.ensures.seen);
-    room = no-more-then c.args.self.now.unstored.chains c.sealed_partitions.new.self.chains c.drop_sealed.new.self.chains (c.what_a_call_leaves_of_the_room.ensures.before _ _ c.sealed_partitions.ensures.left) c.drop_sealed.ensures.room;
+    added = subst (λ (parts : List Partition). IsAdded (g.W.Store.files c.args.store.now) c.args.self.now.folder c.args.number parts (g.W.Store.files c.add.new.store) c.add.new.self) c.as_slice-written.ensures.value c.in-Ok.ensures.added;
+    gone = λ schema writes later h. c.forget_all.ensures.keeps.stands schema [] later (c.drop_sealed.ensures.gone schema writes later (c.sealed_partitions.ensures.stands schema writes later h));
+    seen = all-see c.args.self.now.unstored.chains c.forget_all.new.unstored.chains (lost-then c.args.self.now.unstored.chains c.drop_sealed.new.self.chains c.forget_all.new.unstored.chains (lost-then c.args.self.now.unstored.chains c.sealed_partitions.new.self.chains c.drop_sealed.new.self.chains c.sealed_partitions.ensures.seen.alike c.drop_sealed.ensures.seen) c.forget_all.ensures.keeps.seen);
+    budget = c.forget_all.ensures.keeps.budget ∙ (no-more-then c.args.self.now.unstored.chains c.sealed_partitions.new.self.chains c.drop_sealed.new.self.chains (c.what_a_call_leaves_of_the_room.ensures.before _ _ c.sealed_partitions.ensures.left) c.drop_sealed.ensures.room).budget;
+    counts = counts-then c.args.self.now.unstored.chains c.drop_sealed.new.self.chains c.forget_all.new.unstored.chains (counts-then c.args.self.now.unstored.chains c.sealed_partitions.new.self.chains c.drop_sealed.new.self.chains (c.what_a_call_leaves_of_the_room.ensures.before _ _ c.sealed_partitions.ensures.left).counts c.drop_sealed.ensures.room.counts) c.forget_all.ensures.keeps.counts;
+    cache = (let h = c.requires.stands.1.have in
+        forgets-behind c.in_ok-parts.parts.items c.args.self.now.cache.entries c.forget_all.new.cache.entries c.args.self.now.unstored.chains c.drop_sealed.new.self.chains c.forget_all.new.unstored.chains
+        (keeps-then c.args.self.now.unstored.chains c.sealed_partitions.new.self.chains c.drop_sealed.new.self.chains (c.what_calls_leave_of_the_cache.ensures.before _ _ c.sealed_partitions.ensures.left)
+        (c.what_calls_leave_of_the_cache.ensures.let_go c.args.self.now.folder.schema c.sealed_partitions.new.self c.drop_sealed.new.self.chains h.sealed h.later (subst DoAscend (sym c.sealed_partitions.ensures.keys.sealed) c.known.ensures) (c.sealed_partitions.ensures.stands c.args.self.now.folder.schema h.sealed h.later h.have) c.drop_sealed.ensures.let_go))
+        (subst (λ (parts : List Partition). Forgets parts c.args.self.now.cache.entries c.forget_all.new.cache.entries c.drop_sealed.new.self.chains c.forget_all.new.unstored.chains) c.as_slice-written.ensures.value c.forget_all.ensures.forgets));
   },
 )
+
+pub forget_all-requires : goal.forget_all-requires
+forget_all-requires g c =
+    let h = c.requires.stands.1.have in
+    let cached = c.requires.stands.1.cached in
+    let left = (keeps-then c.args.self.now.unstored.chains c.sealed_partitions.new.self.chains c.drop_sealed.new.self.chains (c.what_calls_leave_of_the_cache.ensures.before _ _ c.sealed_partitions.ensures.left)
+    (c.what_calls_leave_of_the_cache.ensures.let_go c.args.self.now.folder.schema c.sealed_partitions.new.self c.drop_sealed.new.self.chains h.sealed h.later (subst DoAscend (sym c.sealed_partitions.ensures.keys.sealed) c.known.ensures) (c.sealed_partitions.ensures.stands c.args.self.now.folder.schema h.sealed h.later h.have) c.drop_sealed.ensures.let_go)).left in
+    record { are = left.entries c.args.self.now.cache.entries cached.are; one = left.one cached.one; used = left.used cached.used; untaken = left.untaken cached.untaken }
 
 pub returns-in_err-parts-clause-err : goal.returns-in_err-parts-clause-err
 returns-in_err-parts-clause-err g c =
     let kept : IsKept c.args.self.now.folder.schema c.args.self.now.unstored c.sealed_partitions.new.self =
-    room-kept c.args.self.now.folder.schema c.args.self.now.unstored c.sealed_partitions.new.self (λ writes later h. c.sealed_partitions.ensures.stands c.args.self.now.folder.schema writes later h) c.sealed_partitions.ensures.seen (c.what_a_call_leaves_of_the_room.ensures.before _ _ c.sealed_partitions.ensures.left) in
-    let left : (c.args.self.now.folder ≡ c.args.self.now.folder) × IsKept c.args.self.now.folder.schema c.args.self.now.unstored c.sealed_partitions.new.self × (g.W.Store.files c.args.store.now ≡ g.W.Store.files c.args.store.now) = (refl, kept, refl) in
+    room-kept c.args.self.now.folder.schema c.args.self.now.unstored c.sealed_partitions.new.self (λ writes later h. c.sealed_partitions.ensures.stands c.args.self.now.folder.schema writes later h) c.sealed_partitions.ensures.seen (c.what_a_call_leaves_of_the_room.ensures.before _ _ c.sealed_partitions.ensures.left) (c.what_calls_leave_of_the_cache.ensures.before _ _ c.sealed_partitions.ensures.left) in
+    let left : (c.args.self.now.folder ≡ c.args.self.now.folder) × (c.args.self.now.cache ≡ c.args.self.now.cache) × IsKept c.args.self.now.folder.schema c.args.self.now.unstored c.sealed_partitions.new.self × (g.W.Store.files c.args.store.now ≡ g.W.Store.files c.args.store.now) = (refl, refl, kept, refl) in
     on-err _ _ left
 
 pub returns-clause-written : goal.returns-clause-written
 returns-clause-written g c =
     let kept : IsKept c.args.self.now.folder.schema c.args.self.now.unstored c.sealed_partitions.new.self =
-    room-kept c.args.self.now.folder.schema c.args.self.now.unstored c.sealed_partitions.new.self (λ writes later h. c.sealed_partitions.ensures.stands c.args.self.now.folder.schema writes later h) c.sealed_partitions.ensures.seen (c.what_a_call_leaves_of_the_room.ensures.before _ _ c.sealed_partitions.ensures.left) in
-    if-ok-weaker c.not_written.result _ _ (λ reply is. inr (is.1, c.in-Err.ensures.refused.0, kept, c.in-Err.ensures.refused.1)) c.not_written.ensures
+    room-kept c.args.self.now.folder.schema c.args.self.now.unstored c.sealed_partitions.new.self (λ writes later h. c.sealed_partitions.ensures.stands c.args.self.now.folder.schema writes later h) c.sealed_partitions.ensures.seen (c.what_a_call_leaves_of_the_room.ensures.before _ _ c.sealed_partitions.ensures.left) (c.what_calls_leave_of_the_cache.ensures.before _ _ c.sealed_partitions.ensures.left) in
+    if-ok-weaker c.not_written.result _ _ (λ reply is. inr (is.1, c.in-Err.ensures.refused.0, refl, kept, c.in-Err.ensures.refused.1)) c.not_written.ensures
 
 pub returns-clause-err : goal.returns-clause-err
 returns-clause-err g c =
     let kept : IsKept c.args.self.now.folder.schema c.args.self.now.unstored c.sealed_partitions.new.self =
-    room-kept c.args.self.now.folder.schema c.args.self.now.unstored c.sealed_partitions.new.self (λ writes later h. c.sealed_partitions.ensures.stands c.args.self.now.folder.schema writes later h) c.sealed_partitions.ensures.seen (c.what_a_call_leaves_of_the_room.ensures.before _ _ c.sealed_partitions.ensures.left) in
-    let left : (c.add.new.self ≡ c.args.self.now.folder) × IsKept c.args.self.now.folder.schema c.args.self.now.unstored c.sealed_partitions.new.self × (g.W.Store.files c.add.new.store ≡ g.W.Store.files c.args.store.now) = (c.in-Err.ensures.refused.0, kept, c.in-Err.ensures.refused.1) in
+    room-kept c.args.self.now.folder.schema c.args.self.now.unstored c.sealed_partitions.new.self (λ writes later h. c.sealed_partitions.ensures.stands c.args.self.now.folder.schema writes later h) c.sealed_partitions.ensures.seen (c.what_a_call_leaves_of_the_room.ensures.before _ _ c.sealed_partitions.ensures.left) (c.what_calls_leave_of_the_cache.ensures.before _ _ c.sealed_partitions.ensures.left) in
+    let left : (c.add.new.self ≡ c.args.self.now.folder) × (c.args.self.now.cache ≡ c.args.self.now.cache) × IsKept c.args.self.now.folder.schema c.args.self.now.unstored c.sealed_partitions.new.self × (g.W.Store.files c.add.new.store ≡ g.W.Store.files c.args.store.now) = (c.in-Err.ensures.refused.0, refl, kept, c.in-Err.ensures.refused.1) in
     on-err _ _ left
 
 pub returns-in_err-parts-clause-counts : goal.returns-in_err-parts-clause-counts
@@ -68,7 +86,7 @@ returns-in-Ok-clause-counts g c = record {
   answered = refl;
   segments = refl;
   asked = refl;
-  none_fell = counts-then c.args.self.now.unstored.chains c.sealed_partitions.new.self.chains c.drop_sealed.new.self.chains (c.what_a_call_leaves_of_the_room.ensures.before _ _ c.sealed_partitions.ensures.left).counts c.drop_sealed.ensures.room.counts;
+  none_fell = counts-then c.args.self.now.unstored.chains c.drop_sealed.new.self.chains c.forget_all.new.unstored.chains (counts-then c.args.self.now.unstored.chains c.sealed_partitions.new.self.chains c.drop_sealed.new.self.chains (c.what_a_call_leaves_of_the_room.ensures.before _ _ c.sealed_partitions.ensures.left).counts c.drop_sealed.ensures.room.counts) c.forget_all.ensures.keeps.counts;
 }
 
 pub returns-clause-counts : goal.returns-clause-counts

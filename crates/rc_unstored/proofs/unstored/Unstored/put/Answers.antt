@@ -67,7 +67,7 @@ apply-requires g c =
 -- what is left, whatever came of it
 pub returns-in_ok-apply-in-Room-clause-applied : goal.returns-in_ok-apply-in-Room-clause-applied
 returns-in_ok-apply-in-Room-clause-applied g c e =
-    put-left c.args.schema.now c.args.w.now c.args.self.now c.apply.new.self c.make_room.new.chains c.apply.new.chains c.make_room.ensures.made c.in_ok-apply-in-Room.ensures.applied
+    put-left c.args.schema.now c.args.w.now c.args.self.now c.apply.new.self c.make_room.new.chains c.apply.new.chains c.make_room.ensures.made c.known-in-Room.ensures.live c.in_ok-apply-in-Room.ensures.applied
 
 pub returns-in-NoRoom-clause-left : goal.returns-in-NoRoom-clause-left
 returns-in-NoRoom-clause-left g c e = full-left c.args.self.now c.make_room.new.chains c.make_room.ensures.made

@@ -1,0 +1,127 @@
+-- What lies below the row cache once what was read of a partition is in it.
+use Rattle.std.proofs.Common.{◌≡◌, ◌≤◌, ℕ, Result, Ok, Err, true, false, cond, nat_eq, List, [], ◌∷◌, Option, Some, None, All, refl, sym, ap, ◌∙◌, subst, eq-eqb, ne_eqb, arith}
+use Rattle.std.specs.Prelude.{IfErr}
+use Rattle.std.specs.List.{AllByRecursion}
+use Rattle.std.specs.Ordering.{eq_by_cmp}
+use Rattle.std.proofs.lemmas.List.Elements.{All-cons}
+use Rattle.rc_outside.specs.Files.{Files}
+use Rattle.rc_position.specs.Position.{bytes_cmp}
+use Rattle.rc_stream.specs.Causes.{Caused}
+use Rattle.rc_stream.specs.declared.streams.StreamErr.{StreamErr}
+use Rattle.rc_stream.specs.declared.streams.StreamErr.TheVariants as stream_err
+use Rattle.rc_schema.specs.SchemaValue.{SchemaValue}
+use Rattle.rc_writes.specs.Allowed.{ChangeFits}
+use Rattle.rc_mutation.specs.declared.mutations.Mutation.{Mutation}
+use Rattle.rc_mutation.specs.Source.{IsJoinOf, IsMutation, SameSource}
+use Rattle.rc_memory.specs.Memory.{Memory}
+use Rattle.rc_memory.specs.laws.Places.{no_some, same_some}
+use Rattle.rc_lookup.specs.Entries.{AreEntries}
+use Rattle.rc_lookup.specs.Found.{entry_number}
+use Rattle.rc_lookup.specs.Calls.{below_entry}
+use Rattle.rc_lookup.specs.Saying.{CacheSays, SaysBelow}
+use Rattle.rc_lookup.specs.Rest.{LeavesRest}
+use Rattle.rc_tfile.specs.declared.info.TableInfo.{TableInfo}
+use Rattle.rc_tables.specs.Located.{SaysOf}
+use Rattle.rc_tables.specs.Tables.{IsDamageOf, IsSomeJoin}
+use Rattle.rc_machine.specs.State.{State}
+use Rattle.rc_machine.specs.Steps.{IsSaid}
+use Rattle.rc_shard.specs.Cached.{HaveCached, IsJoinSaid}
+use Rattle.rc_shard.proofs.Forgotten.{key-is, key-itself}
+use Rattle.rc_shard.proofs.Looking.{untaken-still}
+use Rattle.rc_shard.proofs.Numbered.{either}
+
+-- what lies below chains, but that what was read lies below that of an entry, where there is one
+abbrev below-now : Option ℕ → Mutation → (ℕ → List Mutation) → ℕ → List Mutation
+below-now None read below i = below i
+below-now (Some id) read below i = cond (nat_eq id i) (read ∷ []) (below i)
+
+below-is : (o : Option ℕ) (read : Mutation) (below : ℕ → List Mutation) (i : ℕ) → below_entry o (λ phase. read ∷ []) (λ id phase. below id) i ≡ (λ (phase : ℕ). below-now o read below i)
+below-is None read below i = refl
+below-is (Some id) read below i = elim (nat_eq id i) as (λ b. ◌≡◌ {A = ℕ → List Mutation} (cond b (λ phase. read ∷ []) (λ phase. below i)) (λ phase. cond b (read ∷ []) (below i))) [
+  | true ↦ refl
+  | false ↦ refl
+]
+
+each-fits : (schema : SchemaValue) (changes : List Mutation) → AllByRecursion (SaysOf schema) changes → All (ChangeFits schema) changes
+each-fits schema [] h = λ i d l. absurd (omega (arith, l))
+each-fits schema (c ∷ cs) h = All-cons (ChangeFits schema) c cs h.0.1 (each-fits schema cs h.1)
+
+pub one-fits : (schema : SchemaValue) (read : Mutation) → ChangeFits schema read → All (ChangeFits schema) (read ∷ [])
+one-fits schema read fits = All-cons (ChangeFits schema) read [] fits (λ i d l. absurd (omega (arith, l)))
+
+fits-now : (schema : SchemaValue) (o : Option ℕ) (read : Mutation) (below : ℕ → List Mutation) → ((id : ℕ) → All (ChangeFits schema) (below id)) → ChangeFits schema read → (i : ℕ) → All (ChangeFits schema) (below-now o read below i)
+fits-now schema None read below fit fits i = fit i
+fits-now schema (Some id) read below fit fits i = elim (nat_eq id i) as (λ b. All (ChangeFits schema) (cond b (read ∷ []) (below i))) [
+  | true ↦ one-fits schema read fits
+  | false ↦ fit i
+]
+
+-- below the entry's own chain
+own-now : (o : Option ℕ) (read : Mutation) (below : ℕ → List Mutation) (id : ℕ) → o ≡ Some id → below-now o read below id ≡ read ∷ []
+own-now None read below id e = absurd (no_some id e)
+own-now (Some j) read below id e = ap (λ b. cond b (read ∷ []) (below id)) (eq-eqb j id (same_some j id e))
+
+-- below another one
+other-now : (o : Option ℕ) (read : Mutation) (below : ℕ → List Mutation) (i : ℕ) → (o ≡ Some i → ⊥) → below-now o read below i ≡ below i
+other-now None read below i ne = refl
+other-now (Some id) read below i ne = ap (λ b. cond b (read ∷ []) (below i)) (ne_eqb id i (λ same. ne (ap Some same)))
+
+module _ (schema : SchemaValue) (key : List ℕ) (read : Mutation) (a b : List (List ℕ × ℕ)) (m n : Memory) (st : State) (said : List Mutation) (is : IsMutation read) (of : IsSaid st key said) (join : IsJoinOf read said)
+    (are : AreEntries b n) (others : (q : List ℕ) (id : ℕ) → entry_number b q ≡ Some id → (q ≡ key → ⊥) → entry_number a q ≡ Some id) (h : HaveCached schema a m st) where
+  abbrev lies : ℕ → List Mutation
+  lies = below-now (entry_number b key) read h.below
+
+  -- of the partition that was read
+  of-own : (q : List ℕ) (id : ℕ) → key ≡ q → entry_number b q ≡ Some id → IsJoinSaid st q (lies id)
+  of-own q id e found =
+      let own : entry_number b key ≡ Some id = ap (entry_number b) e ∙ found in
+      let made : IsJoinSaid st key (lies id) = record { join = read; said = said; is = own-now (entry_number b key) read h.below id own; mutation = is; of_tables = of; joined = join } in
+      subst (λ (x : List ℕ). IsJoinSaid st x (lies id)) e made
+
+  -- of another one
+  of-other : (q : List ℕ) (id : ℕ) → (q ≡ key → ⊥) → entry_number b q ≡ Some id → IsJoinSaid st q (lies id)
+  of-other q id apart found =
+      subst (IsJoinSaid st q) (sym (other-now (entry_number b key) read h.below id (λ own. apart (are.apart q key id found own)))) (h.of_tables q id (others q id found apart))
+
+  of-each : (q : List ℕ) (id : ℕ) → entry_number b q ≡ Some id → IsJoinSaid st q (lies id)
+  of-each q id found = either (IsJoinSaid st q (lies id)) (eq_by_cmp bytes_cmp key q)
+      (λ same. of-own q id (key-is key q same) found)
+      (λ off. of-other q id (λ e. let t : false ≡ true = sym off ∙ ap (eq_by_cmp bytes_cmp key) e ∙ key-itself key in absurd (cc)) found)
+
+  pub cached-filled : ChangeFits schema read → LeavesRest m n → CacheSays schema (below_entry (entry_number b key) (λ phase. read ∷ []) (λ id phase. h.below id)) n → HaveCached schema b n st
+  cached-filled fits r says = record {
+    below = lies;
+    fit = fits-now schema (entry_number b key) read h.below h.fit fits;
+    says = λ id k there kind. subst (λ (x : ℕ → List Mutation). SaysBelow schema x k) (below-is (entry_number b key) read h.below id) (says id k there kind);
+    of_tables = of-each;
+    are = are;
+    one = r.one h.one;
+    used = r.used h.one h.used;
+    untaken = untaken-still m n r h.untaken;
+  }
+
+-- ---- what was read fits
+
+pub read-fits : (schema : SchemaValue) (read : Mutation) (infos : List TableInfo) (key : List ℕ) → IsMutation read → ((read : Mutation) (changes : List Mutation) → IsMutation read → IsJoinOf read changes → SameSource (read ∷ []) changes) →
+    ((schema : SchemaValue) (read : Mutation) (changes : List Mutation) → IsMutation read → SameSource (read ∷ []) changes → All (ChangeFits schema) changes → ChangeFits schema read) → IsSomeJoin schema infos key read → ChangeFits schema read
+read-fits schema read infos key is says fits some = fits schema read some.changes is (says read some.changes is some.joined) (each-fits schema some.changes some.fit)
+
+pub same-source : (changes : List Mutation) → SameSource changes changes
+same-source changes = record { head = refl; statics = refl; clustered = λ x. refl }
+
+-- ---- why a partition could not be read
+
+-- want of memory is no damage, and comes of no fault
+pub no-damage : {T : Type 0} (schema : SchemaValue) (key : List ℕ) (infos : List TableInfo) (r : Result T StreamErr) → IfErr r (λ e. e ≡ stream_err.NoMemory) → IfErr r (IsDamageOf schema key infos)
+no-damage schema key infos (Ok x) h = tt
+no-damage schema key infos (Err e) h = subst (IsDamageOf schema key infos) (sym h) tt
+
+pub read-cause : {T : Type 0} (r : Result T StreamErr) (files : Option Files) (before now : ℕ) → before ≤ now → IfErr r (λ e. e ≡ stream_err.NoMemory) → Caused r files before now
+read-cause (Ok x) files before now le h = le
+read-cause {T} (Err e) files before now le h = subst (λ x. Caused {T = T} (Err x) files before now) (sym h) le
+
+-- it comes of the same, whatever was to be read
+pub cause-of : (T U : Type 0) (e : StreamErr) (files : Option Files) (before now : ℕ) → Caused {T = T} (Err e) files before now → Caused {T = U} (Err e) files before now
+cause-of T U stream_err.Fault files before now h = h
+cause-of T U (stream_err.Damaged file offset) files before now h = h
+cause-of T U stream_err.NoMemory files before now h = h

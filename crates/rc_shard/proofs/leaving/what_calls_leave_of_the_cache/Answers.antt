@@ -1,0 +1,52 @@
+-- Each call leaves chains of the cache as they were, or room was made.
+use Rattle.std.proofs.Common.{ap, arith}
+use Rattle.rc_memory.specs.Memory.{IsUntouched, Memory}
+use Rattle.rc_chain.specs.declared.chains.Snap.{Snap}
+use Rattle.rc_shard.specs.calls.Caching.{KeepsCache}
+use Rattle.rc_shard.proofs.Caching.{BesideLaws, ReadLaws, RoomLaws, SameLaws, back-if, keeps-itself, keeps-then, kinds-taken, leaves-beside, leaves-evicted, leaves-read, leaves-untouched, taken-if, there-behind}
+use Rattle.rc_shard.proofs.leaving.what_calls_leave_of_the_cache.Goals as goal
+
+pub returns : goal.returns
+returns c =
+    let says = c.the_cache_says_what_lies_below.ensures in
+    let calls = c.calls_on_memtables_leave_the_cache.ensures in
+    let entries = c.what_leaves_the_caches_chains_leaves_the_entries.ensures.entries in
+    let ones = c.each_chain_of_the_cache_has_one_version.ensures in
+    let uses = c.chains_of_the_cache_stay_in_use.ensures in
+    let takes = c.what_calls_leave_of_memtables.ensures in
+    let evicts = c.evictions_leave_the_use_of_a_chain.ensures in
+    let same : SameLaws = record { says = says.same; cached = c.each_change_leaves_the_caches_chains.ensures.moved; entries = entries; one = ones.moved; used = uses.moved } in
+    let beside : BesideLaws = record { says = says.beside; cached = calls.entries; entries = entries; one = ones.beside } in
+    let room : RoomLaws = record { says = says.evicted; cached = c.room_leaves_the_entries.ensures.evicted; entries = entries; one = ones.evicted; used = uses.evicted; kind = evicts.kind; pins = evicts.pins } in
+    let read : ReadLaws = record { says = says.before; entries = entries; one = ones.before; used = uses.before } in
+    record {
+      moved = λ old new h. record { left = leaves-untouched same old new h.untouched; bytes = takes.moved old new h.untouched };
+      slots = λ old new h. (
+          let u : IsUntouched old new = record { chains = ap (λ (m : Memory). m.chains) h.same; recency = ap (λ (m : Memory). m.recency) h.same; dropped = ap (λ (m : Memory). m.dropped) h.same; counts = ap (λ (m : Memory). m.counts) h.same } in
+          record { left = leaves-untouched same old new u; bytes = takes.moved old new u });
+      before = λ old new h. record { left = leaves-read old new h read; bytes = (let e = takes.before old new h in omega (arith, e)) };
+      taken = λ old mid new first second seen more a b. (
+          let step = taken-if beside calls.taken uses.taken takes.taken in
+          keeps-then old mid new (step old mid first (kinds-taken mid new first second b seen) a) (step mid new second more b));
+      back = λ old mid new snaps there two a b. (
+          let step : (s : Snap) (m n : Memory) → _ = λ s m n h r. record { left = leaves-beside beside m n (calls.released s m n h r) (uses.released s m n h r); bytes = takes.released s m n h.pin r } in
+          keeps-then old mid new (back-if KeepsCache keeps-itself step snaps.sealed old mid there.sealed a) (back-if KeepsCache keeps-itself step snaps.active mid new (there-behind snaps.sealed snaps.active old mid there.sealed there.active two a) b));
+      let_go = λ schema u new writes later ascend h gone. record {
+        left = leaves-beside beside u.chains new (calls.let_go 131072 schema u new writes later ascend h gone) (uses.let_go 131072 schema u new writes later ascend h gone);
+        bytes = takes.let_go 131072 schema u new writes later ascend h gone;
+      };
+      evicted = λ went gone old new told a. record { left = leaves-evicted room went gone old new told a; bytes = takes.evicted went gone old new a };
+      made = λ S old new told h. record { left = leaves-evicted room h.went h.gone old new told h.evicted; bytes = takes.made S old new h };
+      put = λ schema w old new writes later p rule told live h. (
+        let b = calls.put 131072 schema w old new writes later rule h p in
+            let first = leaves-evicted room b.room.went b.room.gone old.chains b.mid told b.room.evicted in
+            record {
+              says = λ t below x. says.beside t below b.mid new.chains b.same (first.says t below x);
+              entries = λ es x. entries es b.mid new.chains (calls.entries b.mid new.chains b.same) (first.entries es x);
+              one = λ x. ones.beside b.mid new.chains b.same (first.one x);
+              used = uses.put 131072 schema w old new writes later rule h p;
+              untaken = λ x id k there kind. first.untaken x id k (b.same.none id k kind there) kind;
+            },
+        c.a_write_is_of_a_memtable.ensures.put 131072 schema w old new writes later p rule h live,
+      );
+    }

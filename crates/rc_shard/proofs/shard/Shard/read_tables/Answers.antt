@@ -1,0 +1,51 @@
+-- What was read fits, and is put into the row cache; where it could not be read nothing is done.
+use Rattle.std.proofs.Common.{◌≡◌}
+use Rattle.rc_mutation.specs.Fragments.{fragments}
+use Rattle.rc_mutation.specs.declared.mutations.Mutation.{Mutation}
+use Rattle.rc_stream.specs.Stream.{Stream, stream_of}
+use Rattle.rc_shard.proofs.Filled.{cause-of, no-damage, read-cause, read-fits}
+use Rattle.rc_shard.proofs.Looking.{used-itself}
+use Rattle.rc_shard.proofs.Standing.{if-ok-weaker}
+use Rattle.rc_shard.proofs.shard.Shard.read_tables.Goals as goal
+
+pub fill-requires-clause-stands : goal.fill-requires-clause-stands
+fill-requires-clause-stands g c = (g.W.Store.files c.args.store.now, c.requires.0, c.requires.1)
+
+pub fill-requires-clause-mutation : goal.fill-requires-clause-mutation
+fill-requires-clause-mutation g c = c.in-Ok.ensures.mutation
+
+pub fill-requires-clause-fits : goal.fill-requires-clause-fits
+fill-requires-clause-fits g c =
+    read-fits c.args.self.now.folder.schema c.in-Ok.read c.args.self.now.folder.infos c.args.key.now c.in-Ok.ensures.mutation (λ read changes is join. c.a_join_says_what_the_writes_say.ensures read changes is join) (λ schema read changes is same fits. c.what_says_the_same_fits.ensures schema read changes is same fits) c.in-Ok.ensures.some
+
+pub returns-in-Ok-clause-says : goal.returns-in-Ok-clause-says
+returns-in-Ok-clause-says g c = λ m s.
+    let a = c.in-Ok.ensures.said m s.over in
+    if-ok-weaker c.fill.result (λ list. list ≡ stream_of (fragments c.in-Ok.read)) _ (λ list e. record { tabled = c.in-Ok.read; said = a.0; mutation = c.in-Ok.ensures.mutation; stream = e; of_tables = a.1; joined = a.2 }) c.fill.ensures.stream
+
+pub returns-in-Ok-clause-whole : goal.returns-in-Ok-clause-whole
+returns-in-Ok-clause-whole g c = c.fill.ensures.whole
+
+pub returns-in-Ok-clause-keeps : goal.returns-in-Ok-clause-keeps
+returns-in-Ok-clause-keeps g c = λ m s. let a = c.in-Ok.ensures.said m s.over in c.fill.ensures.keeps (g.W.Store.files c.args.store.now) m a.0 s a.1 a.2
+
+pub returns-in-Err-clause-keeps : goal.returns-in-Err-clause-keeps
+returns-in-Err-clause-keeps g c = λ m s. s
+
+pub returns-in-Ok-clause-beside : goal.returns-in-Ok-clause-beside
+returns-in-Ok-clause-beside g c = c.fill.ensures.beside
+
+pub returns-in-Err-clause-beside : goal.returns-in-Err-clause-beside
+returns-in-Err-clause-beside g c = used-itself c.args.self.now
+
+pub returns-in-Ok-clause-damaged : goal.returns-in-Ok-clause-damaged
+returns-in-Ok-clause-damaged g c = no-damage c.args.self.now.folder.schema c.args.key.now c.args.self.now.folder.infos c.fill.result c.fill.ensures.refused
+
+pub returns-in-Err-clause-damaged : goal.returns-in-Err-clause-damaged
+returns-in-Err-clause-damaged g c = c.in-Err.ensures.damaged
+
+pub returns-in-Ok-clause-cause : goal.returns-in-Ok-clause-cause
+returns-in-Ok-clause-cause g c = read-cause c.fill.result (g.W.Store.files c.args.store.now) (g.W.Store.faults c.args.store.now) (g.W.Store.faults c.read.new.store) c.in-Ok.ensures.cause c.fill.ensures.refused
+
+pub returns-in-Err-clause-cause : goal.returns-in-Err-clause-cause
+returns-in-Err-clause-cause g c = cause-of Mutation Stream c.in-Err.error (g.W.Store.files c.args.store.now) (g.W.Store.faults c.args.store.now) (g.W.Store.faults c.read.new.store) c.in-Err.ensures.cause

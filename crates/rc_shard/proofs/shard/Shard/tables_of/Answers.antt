@@ -1,0 +1,49 @@
+-- The cache knows the partition, or it is read.
+use Rattle.std.proofs.Common.{◌+◌, ◌*◌, ◌≤◌, None, refl, ap, ◌∙◌, subst}
+use Rattle.std.specs.Prelude.{IfErr, IfOk, IfSome, IsSome, Ok}
+use Rattle.rc_tables.specs.Tables.{IsDamageOf, listing}
+use Rattle.rc_folder.specs.Tabled.{Tabled}
+use Rattle.rc_shard.specs.Knowing.{IsCachedWhole}
+use Rattle.rc_shard.specs.calls.Looking.{IsTabled}
+use Rattle.rc_shard.proofs.Looking.{lost-within, no-count, none-some, on-ok-weaker, used-then}
+use Rattle.rc_shard.proofs.shard.Shard.tables_of.Goals as goal
+
+pub read_tables-requires : goal.read_tables-requires
+read_tables-requires g c = (c.requires.0, c.look_up.ensures.keeps (g.W.Store.files c.args.store.now) c.requires.0 c.requires.1)
+
+pub returns-in-Ok-Some-clause-says : goal.returns-in-Ok-Some-clause-says
+returns-in-Ok-Some-clause-says g c = λ m s. subst (λ r. IfOk r (λ o. IfSome o (IsTabled m c.args.key.now))) (c.in-Ok-Some.is ∙ ap Ok c.in-Ok-Some.field-0-is) (c.look_up.ensures.says (g.W.Store.files c.args.store.now) m s)
+
+pub returns-in-Ok-None-clause-says : goal.returns-in-Ok-None-clause-says
+returns-in-Ok-None-clause-says g c = λ m s. c.read_tables.ensures.says m (c.look_up.ensures.keeps (g.W.Store.files c.args.store.now) m s)
+
+pub returns-in-Ok-None-clause-known : goal.returns-in-Ok-None-clause-known
+returns-in-Ok-None-clause-known g c = λ whole. absurd (none-some None refl (subst (λ r. IfOk r IsSome) (c.in-Ok-None.is ∙ ap Ok c.in-Ok-None.field-0-is) (c.look_up.ensures.known whole)))
+
+pub returns-in-Ok-Some-clause-whole : goal.returns-in-Ok-Some-clause-whole
+returns-in-Ok-Some-clause-whole g c = λ none. subst (λ r. IfOk r (λ o. IfSome o (λ _. IsCachedWhole c.look_up.new.self c.args.key.now))) (c.in-Ok-Some.is ∙ ap Ok c.in-Ok-Some.field-0-is) c.look_up.ensures.whole
+
+pub returns-in-Ok-None-clause-whole : goal.returns-in-Ok-None-clause-whole
+returns-in-Ok-None-clause-whole g c =
+    let old = c.args.self.now.unstored.chains in
+    let mid = c.look_up.new.self.unstored.chains in
+    let new = c.read_tables.new.self.unstored.chains in
+    on-ok-weaker c.read_tables.result _ _ (λ h none. h (lost-within old mid new new c.look_up.ensures.beside.rest.counts c.read_tables.ensures.beside.rest.counts (no-count new) none)) c.read_tables.ensures.whole
+
+pub returns-in-Ok-Some-clause-keeps : goal.returns-in-Ok-Some-clause-keeps
+returns-in-Ok-Some-clause-keeps g c = λ m s. c.look_up.ensures.keeps (g.W.Store.files c.args.store.now) m s
+
+pub returns-in-Ok-None-clause-keeps : goal.returns-in-Ok-None-clause-keeps
+returns-in-Ok-None-clause-keeps g c = λ m s. c.read_tables.ensures.keeps m (c.look_up.ensures.keeps (g.W.Store.files c.args.store.now) m s)
+
+pub returns-in-Err-clause-keeps : goal.returns-in-Err-clause-keeps
+returns-in-Err-clause-keeps g c = λ m s. c.look_up.ensures.keeps (g.W.Store.files c.args.store.now) m s
+
+pub returns-in-Ok-None-clause-beside : goal.returns-in-Ok-None-clause-beside
+returns-in-Ok-None-clause-beside g c = used-then c.args.self.now c.look_up.new.self c.read_tables.new.self c.look_up.ensures.beside c.read_tables.ensures.beside
+
+pub returns-in-Ok-None-clause-damaged : goal.returns-in-Ok-None-clause-damaged
+returns-in-Ok-None-clause-damaged g c = subst (λ (f : Tabled). IfErr c.read_tables.result (IsDamageOf f.schema c.args.key.now f.infos)) c.look_up.ensures.beside.folder c.read_tables.ensures.damaged
+
+pub returns-in-Ok-None-clause-asks : goal.returns-in-Ok-None-clause-asks
+returns-in-Ok-None-clause-asks g c = subst (λ (f : Tabled). g.W.Store.asks c.read_tables.new.store ≤ g.W.Store.asks c.args.store.now + 2 * listing c.args.key.now f.infos) c.look_up.ensures.beside.folder c.read_tables.ensures.asks
