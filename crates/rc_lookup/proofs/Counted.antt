@@ -1,27 +1,16 @@
 -- How often something was lost, after evictions and after a skipped fill.
-use Rattle.std.proofs.Common.{◌≡◌, ◌⊎◌, ◌≤◌, ◌<◌, ◌+◌, ℕ, zero, suc, List, [], ◌∷◌, inl, inr, refl, sym, ap, ◌∙◌, subst, arith}
-use Rattle.std.proofs.Math.Nat.{le-min, min-eq_left, min-le_right}
+use Rattle.std.proofs.Common.{◌≡◌, ◌⊎◌, ◌≤◌, ◌<◌, ◌+◌, ℕ, zero, suc, [], inl, inr, sym, ap, ◌∙◌, subst, arith}
+use Rattle.std.proofs.Math.Nat.{le-min}
 use Rattle.rc_core.specs.Version.{Version}
 use Rattle.rc_memory.specs.declared.counts.Counts.{Counts}
-use Rattle.rc_memory.specs.Memory.{Member, Memory, raised_by}
-use Rattle.rc_cached.specs.Evictions.{evictions_counted, one_eviction_more}
+use Rattle.rc_memory.specs.Memory.{Member, Memory, chain_at, raised_by}
 use Rattle.rc_stream.specs.Snapshot.{most_counted}
+use Rattle.rc_cached.specs.Evictions.{IsRoomMade}
 use Rattle.rc_cached.specs.Filling.{IsFilled}
 use Rattle.rc_row_cache.specs.Fillers.{losses}
 use Rattle.rc_cached.specs.Fills.{IsSkipCounted}
-use Rattle.rc_cached.specs.Evictions.{IsRoomMade}
 use Rattle.rc_cached.specs.Coming.{AreCountsInRange}
-
--- ---- a count raised
-
-pub raised-low : (more n : ℕ) → n ≤ most_counted → n ≤ raised_by more n
-raised-low more n h = le-min (omega arith) h
-
-pub raised-top : (more n : ℕ) → raised_by more n ≤ most_counted
-raised-top more n = min-le_right (n + more) most_counted
-
-raised-is : (more n : ℕ) → n + more ≤ most_counted → raised_by more n ≡ n + more
-raised-is more n h = min-eq_left h
+use Rattle.rc_lookup.specs.laws.Lost.{IsRaised, each-chain-stays, evicted-counts, nothing-went, raised-is}
 
 pub low_or : (a b : ℕ) → (a < b) ⊎ (b ≤ a)
 low_or zero zero = inr (omega arith)
@@ -30,25 +19,6 @@ low_or (suc a) zero = inr (omega arith)
 low_or (suc a) (suc b) = elim (low_or a b) [ inl l ↦ inl (omega (arith, l)) | inr h ↦ inr (omega (arith, h)) ]
 
 -- ---- evictions
-
-record IsRaised (went : List Member) (c d : Counts) : Type 0 where
-  up : c.evicted ≤ d.evicted
-  top : d.evicted ≤ most_counted
-  same : d.skipped ≡ c.skipped
-  some : (w : Member) (ws : List Member) → went ≡ w ∷ ws → c.evicted < most_counted → c.evicted < d.evicted
-
-evicted-counts : (went : List Member) (c : Counts) → c.evicted ≤ most_counted → IsRaised went c (evictions_counted went c)
-evicted-counts [] c h = record { up = omega arith; top = h; same = refl; some = λ w ws e. absurd (cc) }
-evicted-counts (w ∷ ws) c h =
-    let one : (one_eviction_more c).evicted ≤ most_counted = raised-top 1 c.evicted in
-    let low : c.evicted ≤ (one_eviction_more c).evicted = raised-low 1 c.evicted h in
-    let rest = evicted-counts ws (one_eviction_more c) one in
-    let further : (one_eviction_more c).evicted ≤ (evictions_counted ws (one_eviction_more c)).evicted = rest.up in record {
-      up = omega (arith, low, further);
-      top = rest.top;
-      same = rest.same;
-      some = λ v vs e less. (let more : (one_eviction_more c).evicted ≡ c.evicted + 1 = raised-is 1 c.evicted (omega (arith, less)) in omega (arith, more, further));
-    }
 
 module _ (S : ℕ) (m mid : Memory) (range : AreCountsInRange m.counts) (room : IsRoomMade S m mid) where
   raised : IsRaised room.went m.counts mid.counts
@@ -63,19 +33,15 @@ module _ (S : ℕ) (m mid : Memory) (range : AreCountsInRange m.counts) (room : 
   pub room-losses : losses m ≤ losses mid
   room-losses = let up = raised.up in let same = raised.same in omega (arith, up, same)
 
-  -- where nothing was lost nothing went
+  -- where nothing was lost nothing went, and each chain is as it was
+  evicted-same : losses m ≡ losses mid → losses mid < most_counted → (mid.counts.evicted ≡ m.counts.evicted) × (m.counts.evicted < most_counted)
+  evicted-same e low = (let up = raised.up in let same = raised.same in (omega (arith, e, up, same), omega (arith, low, up)))
+
   pub room-none : losses m ≡ losses mid → losses mid < most_counted → room.went ≡ []
-  room-none e low = by room.went refl
-    where
-      by : (went : List Member) → room.went ≡ went → room.went ≡ []
-      by [] is = is
-      by (w ∷ ws) is = (
-          let up = raised.up in
-          let same = raised.same in
-          let low_there : m.counts.evicted < most_counted = omega (arith, low, up) in
-          let more = raised.some w ws is low_there in
-          absurd (omega (arith, more, same, e))
-          )
+  room-none e low = let h = evicted-same e low in nothing-went room.went room.gone m mid room.evicted h.0 h.1
+
+  pub room-leaves : losses m ≡ losses mid → losses mid < most_counted → (id : ℕ) → chain_at mid id ≡ chain_at m id
+  room-leaves e low = let h = evicted-same e low in each-chain-stays room.went room.gone m mid room.evicted h.0 h.1
 
   -- a skipped fill is counted
   pub skip-losses : (n : Memory) → IsSkipCounted mid n → (losses m < losses n) ⊎ (most_counted ≤ losses n)

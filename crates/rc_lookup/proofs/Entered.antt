@@ -29,7 +29,8 @@ use Rattle.rc_snapshots.specs.Seeing.{AllStillSee}
 use Rattle.rc_row_cache.specs.Footprint.{AreInUse, HaveOneVersion, memtable_bytes}
 use Rattle.rc_lookup.specs.Rest.{LeavesRest}
 use Rattle.rc_lookup.specs.calls.Entering.{KnowsStaticRow, LeavesBut}
-use Rattle.rc_lookup.proofs.Counted.{raised-low, room-range, skip-losses}
+use Rattle.rc_lookup.specs.laws.Lost.{raised-low}
+use Rattle.rc_lookup.proofs.Counted.{room-range, skip-losses}
 use Rattle.rc_lookup.proofs.Kept.{here-or-beside}
 use Rattle.rc_lookup.proofs.Numbered.{chain-beside, chain-here, changed-beside, changed-now, none-is-none}
 use Rattle.rc_lookup.proofs.Rest.{Pins, counts-then, none-more, none-pinned, rest-none, rest-same, rest-then, rest-told}
@@ -101,7 +102,7 @@ module _ (S : ℕ) (key : List ℕ) (pt : Option Tomb) (statics : Row) (phase : 
   pub entered-here : chain_at new s.chain ≡ Some entered-chain
   entered-here = changed-now e.between new s.chain (λ k. with_snapshot (snapshot_number k.chain) k) (ap (λ (m : Memory). m.chains) e.taken.taken.now) first (opened-here s.chain pt (given statics) phase told e.between e.opened)
 
-  entered-beside : (i : ℕ) → (i ≡ s.chain → ⊥) → chain_at new i ≡ chain_at told i
+  pub entered-beside : (i : ℕ) → (i ≡ s.chain → ⊥) → chain_at new i ≡ chain_at told i
   entered-beside i ne = changed-beside e.between new s.chain (λ k. with_snapshot (snapshot_number k.chain) k) (ap (λ (m : Memory). m.chains) e.taken.taken.now) i ne ∙ opened-beside s.chain pt (given statics) phase told e.between e.opened i ne
 
   pub entered-pin : s.pin ≡ free_number []
@@ -111,7 +112,7 @@ module _ (S : ℕ) (key : List ℕ) (pt : Option Tomb) (statics : Row) (phase : 
   no-other : (pin : ℕ) → Pins pin (Some entered-chain) → (pin ≡ s.pin → ⊥) → ⊥
   no-other pin on ne = none-pinned pin (subst (λ (o : Option ℕ). IsSome o) (pin-others (snapshot_number first.chain) [] pin (λ free. ne (free ∙ sym entered-pin))) on)
 
-  entered-counts : (new.counts.evicted ≡ told.counts.evicted) × (new.counts.skipped ≡ told.counts.skipped) × (new.region.moved ≡ told.region.moved)
+  pub entered-counts : (new.counts.evicted ≡ told.counts.evicted) × (new.counts.skipped ≡ told.counts.skipped) × (new.region.moved ≡ told.region.moved)
   entered-counts = (
     ap (λ (m : Memory). m.counts.evicted) e.taken.taken.now ∙ ap (λ c. c.evicted) e.opened.counts,
     ap (λ (m : Memory). m.counts.skipped) e.taken.taken.now ∙ ap (λ c. c.skipped) e.opened.counts,

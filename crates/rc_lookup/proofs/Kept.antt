@@ -31,6 +31,7 @@ use Rattle.rc_core.specs.Version.{Version}
 use Rattle.rc_row_cache.specs.Footprint.{AreInUse}
 use Rattle.rc_lookup.specs.Known.{IsChainKnown, IsPartitionKnown, IsSnapKnown}
 use Rattle.rc_lookup.specs.Looked.{IsPartitionFound, IsLookedUp, IsStreamSaying, IsUnread}
+use Rattle.rc_lookup.specs.Staying.{IsStillThere}
 use Rattle.rc_lookup.specs.calls.Reading.{IsHeadSaid, without_snap}
 
 -- ---- lists and answers
@@ -139,6 +140,12 @@ module _ (s : Snap) (old mid : Memory) (taken : IsSnapshotTaken old mid s.chain 
       (λ same. (let c = was (chain_at old s.chain) refl in
       let clash : Memtable ≡ Cache = sym kind ∙ ap (λ (q : KeptChain). q.chain.kind) (same_some k c.0 (sym e ∙ ap (chain_at old) same ∙ c.1)) ∙ c.2 in absurd (cc)))
       (λ ne. beside id ne ∙ e)
+
+  -- each chain is there still, with what it had
+  pub still : (id : ℕ) → IsStillThere old new id
+  still id k e = here-or-beside s.chain id
+      (λ same. (passed_by s.pin k, ap (chain_at new) same ∙ here k (sym (ap (chain_at old) same) ∙ e), record { kind = refl; attached = refl; versions = refl }))
+      (λ ne. (k, beside id ne ∙ e, record { kind = refl; attached = refl; versions = refl }))
 
   -- its chain, of which it pins the newest version
   pub found : (key : List ℕ) (entries : List (List ℕ × ℕ)) (below : Below) (t : Stream) → entry_number entries key ≡ Some s.chain → MayFill mid s.chain s.pin → IsStreamSaying (below s.chain (phase_pinned h)) t → IsPartitionFound key entries below old t

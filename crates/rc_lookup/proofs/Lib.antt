@@ -11,6 +11,7 @@ mod Turns
 mod Entered
 mod Swept
 mod Statics
+mod Staying
 mod Leaving
 mod Recent
 mod Walked

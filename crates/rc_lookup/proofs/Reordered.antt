@@ -1,14 +1,13 @@
 -- What stays where the recency list has its members in another order.
-use Rattle.std.proofs.Common.{◌≡◌, ◌≢◌, ◌⊎◌, ℕ, zero, suc, Bool, true, false, cond, List, [], ◌∷◌, ◌++◌, Option, Some, None, inl, inr, refl, sym, ap, ◌∙◌, subst, nat_eq, ne_eqb, length, arith}
-use Rattle.std.specs.Prelude.{Contains, Err, IfNone, IfOk, IfSome, Ok, OnErr, Result, filter, not}
+use Rattle.std.proofs.Common.{◌≡◌, ℕ, Bool, true, false, cond, List, [], ◌∷◌, ◌++◌, Option, Some, None, inl, inr, refl, sym, ap, ◌∙◌, subst, ne_eqb, length, arith}
+use Rattle.std.specs.Prelude.{Contains, Err, IfNone, IfOk, Ok, OnErr, Result, filter, not}
 use Rattle.std.specs.declared.alloc.AllocError.{AllocError}
 use Rattle.std.proofs.lemmas.List.Elements.{Contains-append_right}
 use Rattle.lsa_path.specs.laws.Steps.{objects-trans}
-use Rattle.lsa_region.specs.Region.{View}
 use Rattle.rc_memory.specs.Changes.{member}
 use Rattle.rc_memory.specs.Lists.{elem-cases, elem-first, elem-later, elem-left, elem-none}
-use Rattle.rc_memory.specs.Memory.{HasPin, Member, Memory, chain_at, listed_as}
-use Rattle.rc_row_cache.specs.Entries.{AreEntries, IsCached}
+use Rattle.rc_memory.specs.Memory.{HasPin, Member, Memory, chain_at}
+use Rattle.rc_row_cache.specs.Entries.{AreEntries}
 use Rattle.rc_stream.specs.Stream.{Stream}
 use Rattle.rc_snapshots.specs.Seeing.{StillSees}
 use Rattle.rc_row_cache.specs.Footprint.{HaveOneVersion, memtable_bytes}

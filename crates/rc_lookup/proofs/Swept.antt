@@ -121,7 +121,7 @@ module _ (s : Snap) (x new : Memory) (k : KeptChain) (there : chain_at x s.chain
   swept-then dropped kept = elim (idle-or-not back s.chain left_chain cached) [ inl idle ↦ inl (idle, dropped left_chain back-there idle) | inr busy ↦ inr (busy, kept left_chain back-there busy) ]
 
   module _ (swept : IsSweptThen) where
-    swept-beside : (i : ℕ) → (i ≡ s.chain → ⊥) → chain_at new i ≡ chain_at x i
+    pub swept-beside : (i : ℕ) → (i ≡ s.chain → ⊥) → chain_at new i ≡ chain_at x i
     swept-beside i ne = elim swept [ inl gone ↦ chain-beside back new s.chain None gone.1.chains i ne ∙ back-beside i ne | inr kept ↦ ap (λ (m : Memory). chain_at m i) kept.1 ∙ back-beside i ne ]
 
     -- nothing is counted as lost

@@ -5,10 +5,11 @@ use Rattle.rc_core.specs.Chain.{content, flagged}
 use Rattle.rc_core.specs.Continuity.{static_states}
 use Rattle.rc_core.specs.declared.entries.ChainKind.TheVariants.{Memtable}
 use Rattle.rc_registry.specs.Registry.{IsNumberIn}
-use Rattle.rc_memory.specs.Memory.{HasPin, KeptChain, Member, Memory, chain_at, raised_by}
+use Rattle.rc_memory.specs.Memory.{HasPin, KeptChain, Member, Memory, chain_at, on_shown, raised_by}
 use Rattle.rc_memory.specs.Recency.{IsRecency}
 use Rattle.rc_memory.specs.laws.Places.{same_some}
 use Rattle.rc_chain.specs.declared.chains.Snap.{Snap}
+use Rattle.rc_cached.specs.Filling.{on_newest_of}
 use Rattle.rc_cached.specs.LetGo.{NoCountFell}
 use Rattle.rc_stream.specs.Did.{Many, StepsInTurn}
 use Rattle.rc_stream.specs.Snapshot.{NoneLost, most_counted}
@@ -25,9 +26,10 @@ use Rattle.rc_lookup.specs.Rest.{LeavesRest}
 use Rattle.rc_lookup.specs.calls.Entering.{IsFilledThrough, KnowsStaticRow}
 use Rattle.rc_lookup.specs.calls.Filling.{OneFill}
 use Rattle.rc_lookup.specs.calls.Words.{of_its_filler}
-use Rattle.rc_lookup.proofs.Counted.{filled-losses, raised-low, raised-top, room-none, room-raised, room-range, skip-losses}
+use Rattle.rc_lookup.specs.laws.Lost.{raised-low, raised-top}
+use Rattle.rc_lookup.proofs.Counted.{filled-losses, room-leaves, room-none, room-raised, room-range, skip-losses}
 use Rattle.rc_lookup.proofs.Fills.{between, many-many}
-use Rattle.rc_lookup.proofs.Numbered.{none-is-none, there-or-not}
+use Rattle.rc_lookup.proofs.Numbered.{changed-beside, none-is-none, there-or-not}
 use Rattle.rc_lookup.proofs.Rest.{NoMorePins, no-count-fell, none-more, rest-none, rest-then}
 
 -- what one fill leaves, and what many do
@@ -86,6 +88,14 @@ module _ (S : ℕ) where
         filled.stay w (subst (λ l. Contains l w) (room.evicted.recency ∙ ap (λ ws. ws ++ mid.recency) went) on)
     listed m n range (inr (mid, q, room, inr skip)) lost w on = elim (skip-losses S m mid range room n skip.1) [ inl less ↦ absurd (omega (arith, less, lost.0)) | inr top ↦ absurd (omega (arith, top, lost.1)) ]
 
+    -- and each other chain is as it was
+    beside : (m n : Memory) → AreCountsInRange m.counts → IsFillDone S id pin m n → NoneLost (losses m) (losses n) → (i : ℕ) → (i ≡ id → ⊥) → chain_at n i ≡ chain_at m i
+    beside m n range (inl same) lost i ne = ap (λ (x : Memory). chain_at x i) same
+    beside m n range (inr (mid, q, room, inl filled)) lost i ne =
+        let same = filled-losses id (filled_with q) (λ x. x.chain ≡ id) mid n (room-range S m mid range room) filled.filled in
+        changed-beside mid n id (on_shown (on_newest_of (filled_with q))) filled.filled.chains i ne ∙ room-leaves S m mid range room (lost.0 ∙ same) (subst (λ a. a < most_counted) same lost.1) i
+    beside m n range (inr (mid, q, room, inr skip)) lost i ne = elim (skip-losses S m mid range room n skip.1) [ inl less ↦ absurd (omega (arith, less, lost.0)) | inr top ↦ absurd (omega (arith, top, lost.1)) ]
+
   -- ---- one fill, and several
 
   -- the static row is known to a snapshot, by its chain and its number
@@ -108,6 +118,7 @@ module _ (S : ℕ) where
     still = λ id e. e;
     statics = λ none k. k;
     listed = λ none w on. on;
+    beside = λ none i ne. refl;
   }
 
   lost-less : (m n : Memory) → LeavesRest m n → losses m ≤ losses n
@@ -128,6 +139,7 @@ module _ (S : ℕ) where
     still = λ id e. b.still id (a.still id e);
     statics = λ none k. (let u = between (losses old) (losses mid) (losses new) (lost-less old mid a.rest) (lost-less mid new b.rest) none in b.statics u.1 (a.statics u.0 k));
     listed = λ none w on. (let u = between (losses old) (losses mid) (losses new) (lost-less old mid a.rest) (lost-less mid new b.rest) none in b.listed u.1 w (a.listed u.0 w on));
+    beside = λ none i ne. (let u = between (losses old) (losses mid) (losses new) (lost-less old mid a.rest) (lost-less mid new b.rest) none in b.beside u.1 i ne ∙ a.beside u.0 i ne);
   }
 
   module _ (laws : FillLaws) where
@@ -174,6 +186,7 @@ module _ (S : ℕ) where
           still = λ id. laws.still S fi gi m n id did;
           statics = statics-kept s f g m n is fill;
           listed = listed s.chain s.pin m n range done;
+          beside = beside s.chain s.pin m n range done;
         }
 
     turns-through : (s : Snap) (n : ℕ) (f g : StreamFiller) (m k : Memory) → IsFillerOf s f → AreCountsInRange m.counts → StepsInTurn (OneFill (of_its_filler S)) n (f, m) (g, k) → IsFilledThrough S s m k

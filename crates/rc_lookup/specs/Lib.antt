@@ -2,7 +2,9 @@ pub mod Known
 pub mod Rest
 pub mod Touched
 pub mod Looked
+pub mod Staying
 pub mod calls
+pub mod laws
 pub use Rattle.rc_row_cache.specs.Footprint
 pub use Rattle.rc_row_cache.specs.Saying
 pub use Rattle.rc_row_cache.specs.Calls

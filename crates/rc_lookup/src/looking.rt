@@ -16,6 +16,7 @@ ghost use Rattle.rc_cached.specs.Streams.{IsOfCached};
 ghost use Rattle.rc_row_cache.specs.Saying.{Below, CacheSays};
 ghost use Rattle.rc_lookup.specs.Known.{IsChainKnown, IsSnapKnown};
 ghost use Rattle.rc_lookup.specs.Rest.{LeavesRest};
+ghost use Rattle.rc_lookup.specs.Staying.{IsEntryStill};
 ghost use Rattle.rc_lookup.specs.Touched.{IsMadeRecent, IsReordered};
 ghost use Rattle.rc_lookup.specs.Looked.{IsCacheOver, IsPartitionFound, IsLookedUp, IsStreamSaying, IsUnread};
 ghost use Rattle.rc_lookup.specs.calls.Reading.{AllClustered, IsHeadSaid, IsPassable, without_snap};
@@ -188,7 +189,7 @@ fn read_recent<const S: usize>(
     }
 }
 
-/// What the tables say of a partition, where the row cache knows all of it, which it does afterwards too: as the stream of its fragments, from the beginning. Then its objects are the most recent ones of the cache. None where the partition is not in the cache, or something of it is not known. Entries whose chains are gone are forgotten. The only error is want of memory.
+/// What the tables say of a partition, where the row cache knows all of it, which it does afterwards too: as the stream of its fragments, from the beginning. Then its objects are the most recent ones of the cache. None where the partition is not in the cache, or something of it is not known. What the cache has stays; entries whose chains are gone are forgotten. The only error is want of memory.
 pub fn lookup<const S: usize>(
     alloc: Global,
     cache: &mut RowCache,
@@ -202,6 +203,7 @@ pub fn lookup<const S: usize>(
     ensures known { (id : ℕ) → entry_number cache.old.entries key.now ≡ Some id → IsChainKnown chains.old id → IfOk result IsSome }
     ensures whole { IfOk result (λ o. IfSome o (λ _. IsSomeAnd (entry_number cache.new.entries key.now) (IsChainKnown chains.new))) }
     ensures left { IsLookedUp chains.old chains.new }
+    ensures stays { (q : Sequence ℕ) → IsEntryStill q cache.old.entries chains.old cache.new.entries chains.new }
     ensures hit { IfOk result (λ o. IfSome o (λ _. IsSomeAnd (entry_number cache.new.entries key.now) (λ id. IsMadeRecent id chains.old.recency chains.new.recency))) }
     ensures missed { IfOk result (λ o. IfNone o (IsUnread chains.old chains.new)) }
     ensures err { OnErr result (IsUnread chains.old chains.new) }

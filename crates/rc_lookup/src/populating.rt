@@ -6,7 +6,7 @@ ghost use Rattle.rc_mutation.specs.Source.{SameSource};
 ghost use Rattle.rc_writes.specs.Allowed.{ChangeFits};
 ghost use Rattle.rc_core.specs.Version.{end_position};
 ghost use Rattle.rc_memory.specs.Changes.{member};
-ghost use Rattle.rc_memory.specs.Memory.{Memory};
+ghost use Rattle.rc_memory.specs.Memory.{Memory, chain_at};
 ghost use Rattle.rc_cached.specs.Filling.{MayFill};
 ghost use Rattle.rc_row_cache.specs.Found.{entry_number};
 ghost use Rattle.rc_row_cache.specs.Entries.{AreEntries, LeavesCached};
@@ -21,6 +21,7 @@ ghost use Rattle.rc_row_cache.specs.Calls.{below_entry};
 ghost use Rattle.rc_row_cache.specs.Saying.{Below, CacheSays, phase_pinned};
 ghost use Rattle.rc_lookup.specs.Known.{IsChainKnown};
 ghost use Rattle.rc_lookup.specs.Rest.{LeavesRest};
+ghost use Rattle.rc_lookup.specs.Staying.{IsEntryStill};
 ghost use Rattle.rc_lookup.specs.Looked.{IsCacheOver};
 ghost use Rattle.rc_lookup.specs.calls.Entering.{IsFilledThrough, KnowsStaticRow, LeavesBut};
 
@@ -53,6 +54,7 @@ fn forget_entry<const S: usize>(cache: &mut RowCache, chains: &mut Chains<S>, ke
     requires says { (schema : SchemaValue) × (below : Below) × CacheSays schema below chains.old }
     ensures none { entry_number cache.new.entries key.now ≡ None }
     ensures others { (q : Sequence ℕ) (id : ℕ) → entry_number cache.new.entries q ≡ Some id → entry_number cache.old.entries q ≡ Some id }
+    ensures stays { (q : Sequence ℕ) → (q ≡ key.now → ⊥) → IsEntryStill q cache.old.entries chains.old cache.new.entries chains.new }
     ensures entries { AreEntries cache.new.entries chains.new }
     ensures rest { LeavesRest chains.old chains.new }
     ensures says { (schema : SchemaValue) (below : Below) → CacheSays schema below chains.old → CacheSays schema below chains.new }
@@ -124,6 +126,7 @@ fn fill_entry<const S: usize>(
     requires stands { (writes : Sequence Change) × StandsForWrites S chains.old snap.chain snap.pin writes × SameSource (read.now ∷ []) writes }
     ensures rest { (before : Memory) → LeavesBut snap before chains.old → LeavesRest before chains.new }
     ensures lost { losses chains.old ≤ losses chains.new }
+    ensures beside { NoneLost (losses chains.old) (losses chains.new) → (id : ℕ) → (id ≡ snap.chain → ⊥) → chain_at chains.new id ≡ chain_at chains.old id }
     ensures cached { LeavesCached chains.old chains.new }
     ensures says { (schema : SchemaValue) (below : Below) (h : HasCacheSnapshot chains.old snap.chain snap.pin) (writes : Sequence Change) → All (ChangeFits schema) writes → StandsForWrites S chains.old snap.chain snap.pin writes → SameSource (read.now ∷ []) writes → SameSource (below snap.chain (phase_pinned h)) writes →
         CacheSays schema below chains.old → CacheSays schema below chains.new }
@@ -164,6 +167,7 @@ fn enter_read<const S: usize>(
         CacheSays schema (below_entry (entry_number cache.new.entries key.now) (λ _. writes) below) chains.new }
     ensures entries { AreEntries cache.new.entries chains.new }
     ensures others { (q : Sequence ℕ) (id : ℕ) → entry_number cache.new.entries q ≡ Some id → (q ≡ key.now → ⊥) → entry_number cache.old.entries q ≡ Some id }
+    ensures stays { OnOk result (NoneLost (losses chains.old) (losses chains.new) → (q : Sequence ℕ) → (q ≡ key.now → ⊥) → IsEntryStill q cache.old.entries chains.old cache.new.entries chains.new) }
 {
     a_fill_spares_memtables_and_readers();
     a_fill_takes_no_segment();
@@ -185,7 +189,7 @@ fn enter_read<const S: usize>(
     }
 }
 
-/// Puts what was read of a partition into the row cache, in place of what it has of it: in a new entry, for which and for each part of which room is made by moves and evictions; what finds no room is left out. No snapshot of the cache is taken that was not. The only error is want of memory: then the cache has some of it, or nothing.
+/// Puts what was read of a partition into the row cache, in place of what it has of it: in a new entry, for which and for each part of which room is made by moves and evictions; what finds no room is left out. All else that it has stays, where nothing is lost. No snapshot of the cache is taken that was not. The only error is want of memory: then the cache has some of it, or nothing.
 pub fn populate<const S: usize>(
     alloc: Global,
     cache: &mut RowCache,
@@ -203,6 +207,7 @@ pub fn populate<const S: usize>(
         CacheSays schema (below_entry (entry_number cache.new.entries key.now) (λ _. writes) below) chains.new }
     ensures entries { AreEntries cache.new.entries chains.new }
     ensures others { (q : Sequence ℕ) (id : ℕ) → entry_number cache.new.entries q ≡ Some id → (q ≡ key.now → ⊥) → entry_number cache.old.entries q ≡ Some id }
+    ensures stays { OnOk result (NoneLost (losses chains.old) (losses chains.new) → (q : Sequence ℕ) → (q ≡ key.now → ⊥) → IsEntryStill q cache.old.entries chains.old cache.new.entries chains.new) }
 {
     forget_entry(cache, chains, key);
     enter_read(alloc, cache, chains, key, phase, read)

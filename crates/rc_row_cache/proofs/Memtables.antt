@@ -249,4 +249,4 @@ as-before-pins below id pin old new b = pins-at below id pin old new (λ k j the
 -- ---- room, and then the cache as it was
 
 pub put-beside-cache : (S : ℕ) (schema : SchemaValue) (w : Write) (old new : Unstored S) (writes : List Write) (p : IsPutBehind schema w old new) → HasWrites schema old.active p.mid writes → IsRoomMadeBeside S old.chains new.chains
-put-beside-cache S schema w old new writes p h = record { mid = p.mid; room = p.room; same = applied-same schema w old.active new.active p.mid new.chains writes h p.applied }
+put-beside-cache S schema w old new writes p h = record { mid = p.mid; room = p.room; same = applied-same schema w old.active new.active p.mid new.chains writes h p.applied; counts = p.applied.others.counts }

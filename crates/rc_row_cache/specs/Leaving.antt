@@ -13,8 +13,9 @@ pub record AreCachesSame (old new : Memory) : Type 0 where
   pub none : (id : ℕ) (k : KeptChain) → k.chain.kind ≡ Cache → chain_at new id ≡ Some k → chain_at old id ≡ Some k
   pub told : (id : ℕ) → IsNumberIn old.dropped id → IsNumberIn new.dropped id
 
--- room was made, by moves and evictions, and then each chain of the cache is as it was
+-- room was made, by moves and evictions, and then each chain of the cache is as it was, and so are the counts
 pub record IsRoomMadeBeside (S : ℕ) (old new : Memory) : Type 0 where
   pub mid : Memory
   pub room : IsRoomMade S old mid
   pub same : AreCachesSame mid new
+  pub counts : new.counts ≡ mid.counts

@@ -1,11 +1,12 @@
 -- What calls leave of the row cache, and of what memtables take.
-use Rattle.std.proofs.Common.{inl, inr, ◌≡◌, ◌≢◌, ℕ, List, Option, Some, None, IsSome, refl, sym, ap, ◌∙◌, subst, le_refl, slice_index_or, arith}
+use Rattle.std.proofs.Common.{inl, inr, ◌≡◌, ◌≢◌, ◌≤◌, ◌+◌, ℕ, List, Option, Some, None, IsSome, refl, sym, ap, ◌∙◌, subst, le_refl, slice_index_or, arith}
 use Rattle.std.specs.Prelude.{Contains, IfSome, IsSomeAnd}
 use Rattle.std.specs.Option.{option_map}
 use Rattle.rc_schema.specs.SchemaValue.{SchemaValue}
 use Rattle.rc_registry.specs.ChainKind.TheVariants.{Memtable}
 use Rattle.rc_registry.specs.Registry.{IsNumberIn}
 use Rattle.rc_registry.specs.Steps.{pin_at}
+use Rattle.rc_memory.specs.declared.counts.Counts.{Counts}
 use Rattle.rc_memory.specs.Memory.{IsSnapshotTaken, IsUntouched, KeptChain, Member, Memory, chain_at, snapshot_number, with_snapshot, without_snapshot}
 use Rattle.rc_memory.specs.laws.Places.{no_some, same_some}
 use Rattle.rc_chain.specs.declared.chains.Snap.{Snap}
@@ -18,13 +19,28 @@ use Rattle.rc_lookup.specs.Entries.{AreEntries, LeavesCached}
 use Rattle.rc_lookup.specs.Leaving.{AreCachesSame}
 use Rattle.rc_lookup.specs.Saying.{Below, CacheSays}
 use Rattle.rc_lookup.specs.Footprint.{AreInUse, HaveOneVersion, memtable_bytes}
-use Rattle.rc_shard.specs.calls.Caching.{KeepsCache, LeavesCache}
+use Rattle.rc_lookup.specs.Fillers.{losses}
+use Rattle.rc_lookup.specs.LetGo.{NoCountFell, TakesNoMore}
+use Rattle.rc_lookup.specs.laws.Lost.{each-chain-stays}
+use Rattle.rc_lookup.specs.laws.Staying.{content-then, same-content}
+use Rattle.rc_stream.specs.Snapshot.{NoneLost}
+use Rattle.rc_shard.specs.calls.Caching.{AreStillThere, KeepsCache, LeavesCache}
 use Rattle.rc_shard.proofs.Numbered.{chain-beside, chain-here, either, here-or-beside, mapped, some-chain, there-or-not}
 
 -- ---- nothing is done, or one thing after another
 
+-- where nothing was lost in the end nothing was lost before or since
+pub lost-neither : (a b c : ℕ) → a ≤ b → b ≤ c → NoneLost a c → NoneLost a b × NoneLost b c
+lost-neither a b c f g none = let e = none.0 in let l = none.1 in ((omega (arith, f, g, e), omega (arith, g, l)), (omega (arith, f, g, e), l))
+
+still-along : (old mid new : Memory) → AreStillThere old mid → AreStillThere mid new → AreStillThere old new
+still-along old mid new f g id k there kind =
+    let a = f id k there kind in
+    let b = g id a.0 a.1 (a.2.kind ∙ kind) in
+    (b.0, b.1, content-then k a.0 b.0 a.2 b.2)
+
 pub leaves-itself : (m : Memory) → LeavesCache m m
-leaves-itself m = record { says = λ schema below h. h; entries = λ es h. h; one = λ h. h; used = λ h. h; untaken = λ h. h }
+leaves-itself m = record { says = λ schema below h. h; entries = λ es h. h; one = λ h. h; used = λ h. h; untaken = λ h. h; lost = le_refl (losses m); still = λ none id k there kind. (k, there, same-content k) }
 
 pub leaves-then : (old mid new : Memory) → LeavesCache old mid → LeavesCache mid new → LeavesCache old new
 leaves-then old mid new f g = record {
@@ -33,6 +49,8 @@ leaves-then old mid new f g = record {
   one = λ h. g.one (f.one h);
   used = λ h. g.used (f.used h);
   untaken = λ h. g.untaken (f.untaken h);
+  lost = (let a = f.lost in let b = g.lost in omega (arith, a, b));
+  still = λ none. (let u = lost-neither (losses old) (losses mid) (losses new) f.lost g.lost none in still-along old mid new (f.still u.0) (g.still u.1));
 }
 
 pub keeps-itself : (m : Memory) → KeepsCache m m
@@ -42,6 +60,9 @@ pub keeps-then : (old mid new : Memory) → KeepsCache old mid → KeepsCache mi
 keeps-then old mid new f g = record { left = leaves-then old mid new f.left g.left; bytes = (let a = f.bytes in let b = g.bytes in omega (arith, a, b)) }
 
 -- ---- what the laws of the cache say of each
+
+no-loss-fell : (old new : Memory) → NoCountFell old new → losses old ≤ losses new
+no-loss-fell old new fell = let a = fell.evicted in let b = fell.skipped in omega (arith, a, b)
 
 -- of chains that are the same, wherever objects lie
 pub record SameLaws : Type 0 where
@@ -59,6 +80,8 @@ module _ (l : SameLaws) (old new : Memory) (u : IsUntouched old new) where
     one = λ h. l.one old new u h;
     used = λ h. l.used old new u h;
     untaken = λ h id k there kind. h id k (sym (ap (λ cs. slice_index_or cs id None) u.chains) ∙ there) kind;
+    lost = (let e = ap (λ (c : Counts). c.evicted + c.skipped) u.counts in omega (arith, e));
+    still = λ none id k there kind. (k, ap (λ cs. slice_index_or cs id None) u.chains ∙ there, same-content k);
   }
 
 -- of chains of the cache that are the same
@@ -68,7 +91,7 @@ pub record BesideLaws : Type 0 where
   pub entries : (entries : List (List ℕ × ℕ)) (old new : Memory) → LeavesCached old new → AreEntries entries old → AreEntries entries new
   pub one : (old new : Memory) → AreCachesSame old new → HaveOneVersion old → HaveOneVersion new
 
-module _ (l : BesideLaws) (old new : Memory) (same : AreCachesSame old new) (used : AreInUse old → AreInUse new) where
+module _ (l : BesideLaws) (old new : Memory) (same : AreCachesSame old new) (used : AreInUse old → AreInUse new) (fell : NoCountFell old new) where
   pub leaves-beside : LeavesCache old new
   leaves-beside = record {
     says = λ schema below h. l.says schema below old new same h;
@@ -76,6 +99,8 @@ module _ (l : BesideLaws) (old new : Memory) (same : AreCachesSame old new) (use
     one = λ h. l.one old new same h;
     used = used;
     untaken = λ h id k there kind. h id k (same.none id k kind there) kind;
+    lost = no-loss-fell old new fell;
+    still = λ none id k there kind. (k, same.stays id k kind there, same-content k);
   }
 
 -- of objects that were evicted, as where room was made
@@ -88,7 +113,7 @@ pub record RoomLaws : Type 0 where
   pub kind : (id : ℕ) (went : List Member) (k : KeptChain) → (evicted_of id went k).chain.kind ≡ k.chain.kind
   pub pins : (id : ℕ) (went : List Member) (k : KeptChain) → (evicted_of id went k).chain.pins ≡ k.chain.pins
 
-module _ (l : RoomLaws) (went : List Member) (gone : List ℕ) (old new : Memory) (told : (id : ℕ) → IsNumberIn old.dropped id → chain_at old id ≡ None) (evicted : AreEvicted went gone old new) where
+module _ (l : RoomLaws) (went : List Member) (gone : List ℕ) (old new : Memory) (told : (id : ℕ) → IsNumberIn old.dropped id → chain_at old id ≡ None) (evicted : AreEvicted went gone old new) (fell : NoCountFell old new) where
   -- a chain that is there was there, with what went of it
   was-there : (id : ℕ) (k : KeptChain) → chain_at new id ≡ Some k → (was : KeptChain) × (chain_at old id ≡ Some was) × (evicted_of id went was ≡ k)
   was-there id k there =
@@ -105,6 +130,13 @@ module _ (l : RoomLaws) (went : List Member) (gone : List ℕ) (old new : Memory
         let was = was-there id k there in
         ap (λ (q : KeptChain). pin_at q.chain.pins pin) (sym was.2) ∙ ap (λ ps. pin_at ps pin) (l.pins id went was.0)
         ∙ h id was.0 was.1 (sym (l.kind id went was.0) ∙ ap (λ (q : KeptChain). q.chain.kind) was.2 ∙ kind) pin;
+    lost = no-loss-fell old new fell;
+    still = λ none id k there kind. (
+        let e = none.0 in
+        let low = none.1 in
+        let a = fell.evicted in
+        let b = fell.skipped in
+        (k, each-chain-stays went gone old new evicted (omega (arith, e, a, b)) (omega (arith, low, a)) id ∙ there, same-content k));
   }
 
 -- of chains that were read
@@ -133,6 +165,8 @@ module _ (old new : Memory) (b : AreAsBefore old new) where
     one = λ h. l.one old new b h;
     used = λ h. l.used old new b h;
     untaken = λ h id k there kind pin. (let was = was-read id k there in was.2.pins pin ∙ h id was.0 was.1 (sym was.2.kind ∙ kind) pin);
+    lost = (let e = ap (λ (c : Counts). c.evicted + c.skipped) b.counts in omega (arith, e));
+    still = λ none id k there kind. (let now = b.there id k there in (now.0, now.1, record { kind = now.2.kind; attached = now.2.attached; versions = now.2.versions }));
   }
 
 -- ---- snapshots of two chains
@@ -188,10 +222,10 @@ there-behind (Some s) (Some t) old mid h on apart r = still-there s old mid h r 
 
 -- what holds over a call that takes one holds where there is one
 module _ (l : BesideLaws) (same : (old new : Memory) (taken : Option Snap) → IfSome taken (λ s. kind_seen new s ≡ Memtable) → IsTakenIf old new taken → AreCachesSame old new)
-    (used : (id pin phase : ℕ) (old new : Memory) → IsSnapshotTaken old new id pin phase → AreInUse old → AreInUse new) (bytes : (id pin phase : ℕ) (old new : Memory) → IsSnapshotTaken old new id pin phase → memtable_bytes new ≡ memtable_bytes old) where
+    (used : (id pin phase : ℕ) (old new : Memory) → IsSnapshotTaken old new id pin phase → AreInUse old → AreInUse new) (bytes : (id pin phase : ℕ) (old new : Memory) → IsSnapshotTaken old new id pin phase → memtable_bytes new ≡ memtable_bytes old) (fell : (old mid new : Memory) (first second : Option Snap) → IsTakenIf old mid first → IsTakenIf mid new second → TakesNoMore old new) where
   pub taken-if : (old new : Memory) (o : Option Snap) → IfSome o (λ s. kind_seen new s ≡ Memtable) → IsTakenIf old new o → KeepsCache old new
   taken-if old new None seen is = subst (KeepsCache old) (sym is) (keeps-itself old)
   taken-if old new (Some s) seen taken = record {
-    left = leaves-beside l old new (same old new (Some s) seen taken) (used s.chain s.pin s.phase old new taken);
+    left = leaves-beside l old new (same old new (Some s) seen taken) (used s.chain s.pin s.phase old new taken) (fell old new new (Some s) None taken refl).counts;
     bytes = (let e = bytes s.chain s.pin s.phase old new taken in omega (arith, e));
   }

@@ -1,5 +1,5 @@
 -- Evictions, one after another, as many as were asked for, or all that there were.
-use Rattle.std.proofs.Common.{◌≡◌, ◌≤◌, ◌+◌, ◌-◌, ℕ, List, [], ◌∷◌, ◌++◌, length, length-append, refl, sym, ap, ◌∙◌, arith}
+use Rattle.std.proofs.Common.{◌≡◌, ◌≤◌, ◌+◌, ◌-◌, ℕ, List, [], ◌∷◌, ◌++◌, length, length-append, refl, ap, ◌∙◌, arith}
 use Rattle.std.specs.Prelude.{min}
 use Rattle.rc_memory.specs.Memory.{IsUntouched, Member, Memory}
 use Rattle.rc_lookup.specs.Evictions.{AreEvicted}

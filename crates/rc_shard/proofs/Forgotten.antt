@@ -1,5 +1,5 @@
 -- What a partition that leaves the row cache leaves of the rest.
-use Rattle.std.proofs.Common.{inl, inr, ◌≡◌, ◌≤◌, ◌<◌, ◌-◌, ℕ, zero, suc, take, drop, slice_index_or, true, false, cond, List, [], ◌∷◌, Option, Some, None, length, refl, sym, ap, ◌∙◌, subst, le_refl, arith}
+use Rattle.std.proofs.Common.{inl, inr, ◌≡◌, ◌≤◌, ◌<◌, ◌+◌, ◌-◌, ℕ, zero, suc, take, drop, slice_index_or, true, false, cond, List, [], ◌∷◌, Option, Some, None, length, refl, sym, ap, ◌∙◌, subst, le_refl, arith}
 use Rattle.std.specs.Prelude.{IfSome}
 use Rattle.std.specs.Map.{remove_entry}
 use Rattle.std.specs.BTreeMap.{is_at}
@@ -17,6 +17,7 @@ use Rattle.rc_registry.specs.ChainKind.{ChainKind}
 use Rattle.rc_registry.specs.ChainKind.TheVariants.{Cache, Memtable}
 use Rattle.rc_registry.specs.Registry.{IsNumberIn}
 use Rattle.rc_registry.specs.Steps.{pin_at}
+use Rattle.rc_memory.specs.declared.counts.Counts.{Counts}
 use Rattle.rc_memory.specs.Kept.{IsSoundChain}
 use Rattle.rc_memory.specs.Memory.{KeptChain, Memory, chain_at, on_shown, shown_detached}
 use Rattle.rc_memory.specs.laws.Places.{no_some, same_some}
@@ -31,8 +32,12 @@ use Rattle.rc_lookup.specs.Entries.{AreEntries}
 use Rattle.rc_lookup.specs.Found.{DoKeysAscend, entry_number}
 use Rattle.rc_lookup.specs.Saying.{Below, CacheSays}
 use Rattle.rc_lookup.specs.Footprint.{AreInUse, HaveOneVersion, NoUpdateStands, memtable_bytes}
-use Rattle.rc_shard.specs.calls.Caching.{AreOthers, Forgets, HasCache, KeepsCache}
+use Rattle.rc_lookup.specs.Fillers.{losses}
+use Rattle.rc_lookup.specs.Staying.{IsEntryStill}
+use Rattle.rc_lookup.specs.laws.Staying.{entry-itself, entry-then, same-content}
+use Rattle.rc_shard.specs.calls.Caching.{AreOthers, AreStillThere, Forgets, HasCache, KeepsCache}
 use Rattle.rc_shard.specs.calls.Storing.{KeepsWritten}
+use Rattle.rc_shard.proofs.Caching.{lost-neither}
 use Rattle.rc_shard.proofs.Numbered.{chain-beside, chain-here, either, here-or-beside, mapped, there-or-not}
 
 -- ---- keys
@@ -49,17 +54,22 @@ pub key-itself : (key : List ℕ) → eq_by_cmp bytes_cmp key key ≡ true
 key-itself key = (eq_by_cmp_equiv bytes_cmp_total).refl key
 
 -- keys that differ one way differ the other way
-differ : (q key : List ℕ) → eq_by_cmp bytes_cmp key q ≡ false → eq_by_cmp bytes_cmp q key ≡ false
+pub differ : (q key : List ℕ) → eq_by_cmp bytes_cmp key q ≡ false → eq_by_cmp bytes_cmp q key ≡ false
 differ q key off = either (eq_by_cmp bytes_cmp q key ≡ false) (eq_by_cmp bytes_cmp q key)
     (λ same. let t : false ≡ true = sym off ∙ ap (λ k. eq_by_cmp bytes_cmp key k) (key-is q key same) ∙ key-itself key in absurd (cc)) (λ e. e)
 
 not-both : (kind : ChainKind) → kind ≡ Memtable → kind ≡ Cache → ⊥
 not-both kind m c = (let clash : Memtable ≡ Cache = sym m ∙ c in cc)
 
+-- ---- entries
+
+pub entry-still : (key : List ℕ) (es : List (List ℕ × ℕ)) (m n : Memory) → AreStillThere m n → IsEntryStill key es m es n
+entry-still key es m n still id e on = (e, λ k there. still id k there (ap (λ (q : KeptChain). q.chain.kind) (same_some k on.kept (sym there ∙ on.there)) ∙ on.kind))
+
 -- ---- none, and one after another
 
 pub forgets-none : (es : List (List ℕ × ℕ)) (m : Memory) → Forgets [] es es m m
-forgets-none es m = record { says = λ schema below h. h; has = λ h. h; found = λ h key id e. (e, tt); bytes = le_refl (memtable_bytes m) }
+forgets-none es m = record { says = λ schema below h. h; has = λ h. h; found = λ h key id e. (e, tt); bytes = le_refl (memtable_bytes m); lost = le_refl (losses m); stays = λ h none key others. entry-itself key es m }
 
 pub forgets-then : (p : Partition) (ps : List Partition) (a b c : List (List ℕ × ℕ)) (m n l : Memory) → Forgets (p ∷ []) a b m n → Forgets ps b c n l → Forgets (p ∷ ps) a c m l
 forgets-then p ps a b c m n l f g = record {
@@ -67,6 +77,10 @@ forgets-then p ps a b c m n l f g = record {
   has = λ h. g.has (f.has h);
   found = λ h key id e. (let later = g.found (f.has h) key id e in let first = f.found h key id later.0 in (first.0, (first.1.0, later.1)));
   bytes = (let x = f.bytes in let y = g.bytes in omega (arith, x, y));
+  lost = (let x = f.lost in let y = g.lost in omega (arith, x, y));
+  stays = λ h none key others. (
+      let u = lost-neither (losses m) (losses n) (losses l) f.lost g.lost none in
+      entry-then key a b c m n l (f.stays h u.0 key (others.0, tt)) (g.stays (f.has h) u.1 key others.1));
 }
 
 -- behind what keeps the cache
@@ -78,6 +92,10 @@ forgets-behind ps a b m n l k f =
       has = λ h. f.has (step h);
       found = λ h. f.found (step h);
       bytes = (let x = k.bytes in let y = f.bytes in omega (arith, x, y));
+      lost = (let x = k.left.lost in let y = f.lost in omega (arith, x, y));
+      stays = λ h none key others. (
+          let u = lost-neither (losses m) (losses n) (losses l) k.left.lost f.lost none in
+          entry-then key a a b m n l (entry-still key a m n (k.left.still u.0)) (f.stays (step h) u.1 key others));
     }
 
 pub written-itself : (u : Unstored 131072) → KeepsWritten u u
@@ -107,6 +125,8 @@ forgets-absent p es es' m n none same =
         ),
       );
       bytes = le_refl (memtable_bytes m);
+      lost = le_refl (losses m);
+      stays = λ h none key others. entry-itself key es m;
     } in
     subst (λ (x : List (List ℕ × ℕ)). Forgets (p ∷ []) es x m n) (sym same.0) (subst (λ (x : Memory). Forgets (p ∷ []) es es m x) (sym same.1) made)
 
@@ -142,6 +162,12 @@ module _ (l : DetachLaws) (p : Partition) (es : List (List ℕ × ℕ)) (id : �
       (q.0, q.1, ap (λ (x : KeptChain). x.chain.kind) (sym q.2), ap (λ (x : KeptChain). x.chain.pins) (sym q.2)))
       (λ ne here. (k, sym (chain-beside u.chains n id (option_map (on_shown shown_detached) (chain_at u.chains id)) is i ne) ∙ here, refl, refl)) there)
 
+  -- another chain is as it was
+  other-still : (i : ℕ) → (id ≡ i → ⊥) → chain_at n i ≡ chain_at u.chains i
+  other-still i ne = there-or-not _ (chain_at u.chains id)
+      (λ none. ap (λ (x : Memory). chain_at x i) (d.gone none))
+      (λ at e. chain-beside u.chains n id (option_map (on_shown shown_detached) (chain_at u.chains id)) (d.there at e).2.chains i (λ same. ne (sym same)))
+
   pub forgets-entry : (es' : List (List ℕ × ℕ)) → es' ≡ remove_entry (is_at (bytes_cmp p.key)) es → (AreEntries es u.chains → AreEntries es' n) → Forgets (p ∷ []) es es' u.chains n
   forgets-entry es' is entries = record {
     says = λ schema below h. l.says schema below id u.chains n d h;
@@ -158,6 +184,10 @@ module _ (l : DetachLaws) (p : Partition) (es : List (List ℕ × ℕ)) (id : �
         (λ on. absurd (no_some i (sym (ap (λ b. cond b None (entry_number es key)) on) ∙ at)))
         (λ off. (sym (ap (λ b. cond b None (entry_number es key)) off) ∙ at, (differ key p.key off, tt)));
     bytes = (let e = l.bytes id u.chains n d in omega (arith, e));
+    lost = there-or-not _ (chain_at u.chains id) (λ none. let same = ap losses (d.gone none) in omega (arith, same)) (λ at e. let same = ap (λ (c : Counts). c.evicted + c.skipped) (d.there at e).2.counts in omega (arith, same));
+    stays = λ h none key others i e on. (
+        let at = ap (λ (x : List (List ℕ × ℕ)). entry_number x key) is ∙ l.gone es p.key key h.are.ascend ∙ ap (λ b. cond b None (entry_number es key)) (differ p.key key others.0) ∙ e in
+        (at, λ k there. (k, other-still i (λ own. let t : true ≡ false = sym (key-itself key) ∙ ap (λ x. eq_by_cmp bytes_cmp key x) (h.are.apart key p.key i e (entry ∙ ap (λ j. Some j) own)) ∙ others.0 in absurd (cc)) ∙ there, same-content k)));
   }
 
   -- a memtable's chain is another one

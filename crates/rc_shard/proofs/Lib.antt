@@ -1,5 +1,6 @@
 mod Numbered
 mod Caching
+mod Known
 mod Live
 mod Unwritten
 mod Forgotten
@@ -11,6 +12,7 @@ mod Flushing
 mod Opening
 mod Pinned
 mod Closing
+mod Compacted
 mod Looking
 mod Filled
 mod Evicted

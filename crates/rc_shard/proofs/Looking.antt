@@ -211,6 +211,10 @@ known-taken m n (Some s) taken id h =
     (λ on. subst KnownIn (sym (chain-here m n s.chain now is)) (pinned-known (chain_at m s.chain) on))
     (λ ne on. subst KnownIn (sym (chain-beside m n s.chain now is id ne)) on) h
 
+pub same-recency : (m n : Memory) (taken : Option Snap) → IsTakenIf m n taken → n.recency ≡ m.recency
+same-recency m n None same = ap (λ (x : Memory). x.recency) same
+same-recency m n (Some s) taken = ap (λ (x : Memory). x.recency) taken.now
+
 some-known : (o : Option ℕ) (P Q : ℕ → Type 0) → ((id : ℕ) → P id → Q id) → IsSomeAnd o P → IsSomeAnd o Q
 some-known None P Q f h = absurd h
 some-known (Some id) P Q f h = f id h

@@ -1,6 +1,6 @@
 -- A reader that was opened pins its partition.
-use Rattle.std.proofs.Common.{◌≡◌, ℕ, List, sym, subst}
-use Rattle.std.specs.Prelude.{Err, IfOk, Ok, Result}
+use Rattle.std.proofs.Common.{◌≡◌, ℕ, List, sym, ap, subst}
+use Rattle.std.specs.Prelude.{Err, IfOk, IsSomeAnd, Ok, Result}
 use Rattle.std.specs.declared.alloc.AllocError.{AllocError}
 use Rattle.rc_position.specs.declared.slices.Slice.{Slice}
 use Rattle.rc_schema.specs.SchemaValue.{SchemaValue}
@@ -12,6 +12,8 @@ use Rattle.rc_lines.specs.declared.commands.Reply.{Reply}
 use Rattle.rc_lines.specs.declared.commands.Reply.TheVariants as replies
 use Rattle.rc_memory.specs.Memory.{Memory}
 use Rattle.rc_lookup.specs.Fillers.{losses}
+use Rattle.rc_lookup.specs.Found.{entry_number}
+use Rattle.rc_lookup.specs.Touched.{IsMadeRecent}
 use Rattle.rc_stream.specs.Snapshot.{NoneLost}
 use Rattle.rc_snapshots.specs.declared.snaps.Snaps.{Snaps}
 use Rattle.rc_lookup.specs.Unstored.{Unstored}
@@ -22,7 +24,7 @@ use Rattle.rc_lookup.specs.Rest.{LeavesRest}
 use Rattle.rc_opened.specs.declared.opened.Opened.{Opened}
 use Rattle.rc_opened.specs.Opened.{snaps_of}
 use Rattle.rc_shard.specs.declared.shard.Shard.{Shard}
-use Rattle.rc_shard.specs.Knowing.{IsCachedWhole, IsKnownOnceOpened}
+use Rattle.rc_shard.specs.Knowing.{IsCachedWhole, IsKnownOnceOpened, IsPartitionRecent, IsRecentOnceHit}
 use Rattle.rc_shard.specs.Opening.{IsOnePinned, IsOpenedAsTold, PinsPartition}
 use Rattle.rc_shard.specs.calls.Keeping.{TellsOf}
 
@@ -67,3 +69,18 @@ module _ (id : ℕ) (key : List ℕ) (slice : Slice) (k : Shard) where
   filled-unread k' stream_err.Fault (Ok reply) told = subst (λ q. IsKnownOnceOpened (OpenRead id key slice) q k k') (sym told) tt
   filled-unread k' (stream_err.Damaged file offset) (Ok reply) told = subst (λ q. IsKnownOnceOpened (OpenRead id key slice) q k k') (sym told) tt
   filled-unread k' stream_err.NoMemory (Ok reply) told = absurd told
+
+  -- a partition that was known is the most recent one once its reader is opened
+  pub recent-opened : (l k' : Shard) (r : Result Reply AllocError) → IfOk r (λ reply. reply ≡ replies.Fine) → IfOk r (λ _. (k'.cache.entries ≡ l.cache.entries) × (k'.unstored.chains.recency ≡ l.unstored.chains.recency)) → (IsCachedWhole k key → IsPartitionRecent key k l) →
+      IfOk r (λ reply. IsRecentOnceHit (OpenRead id key slice) reply k k')
+  recent-opened l k' (Ok reply) fine same hit = subst (λ q. IsRecentOnceHit (OpenRead id key slice) q k k') (sym fine) (λ whole. (
+      let e : entry_number k'.cache.entries key ≡ entry_number l.cache.entries key = ap (λ es. entry_number es key) same.0 in
+      subst (λ o. IsSomeAnd o (λ i. IsMadeRecent i k.unstored.chains.recency k'.unstored.chains.recency)) (sym e)
+      (subst (λ ws. IsSomeAnd (entry_number l.cache.entries key) (λ i. IsMadeRecent i k.unstored.chains.recency ws)) (sym same.1) (hit whole))))
+  recent-opened l k' (Err e) fine same hit = tt
+
+  pub recent-unread : (k' : Shard) (e : StreamErr) (r : Result Reply AllocError) → IfOk r (TellsOf e) → IfOk r (λ reply. IsRecentOnceHit (OpenRead id key slice) reply k k')
+  recent-unread k' e (Err x) told = tt
+  recent-unread k' stream_err.Fault (Ok reply) told = subst (λ q. IsRecentOnceHit (OpenRead id key slice) q k k') (sym told) tt
+  recent-unread k' (stream_err.Damaged file offset) (Ok reply) told = subst (λ q. IsRecentOnceHit (OpenRead id key slice) q k k') (sym told) tt
+  recent-unread k' stream_err.NoMemory (Ok reply) told = absurd told

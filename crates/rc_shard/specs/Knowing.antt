@@ -3,15 +3,21 @@
 --     OnOpening, OnOpened    what holds of an opening's key, and where a reader was opened
 --     AsksNothingWhereKnown  a partition that is known is opened without asking the store
 --     IsKnownOnceOpened      a partition that was opened is known
-use Rattle.std.specs.Prelude.{◌≡◌, ℕ, IsSomeAnd, List, ⊤}
+--     IsPartitionRecent      its objects are the most recent ones
+--     IsRecentOnceHit        so they are once it was opened, where it was known before
+--     IsUnwritten, Spares    a partition that no memtable has; which partitions a command leaves
+--     StaysKnown             what is known stays known
+use Rattle.std.specs.Prelude.{◌≡◌, ℕ, IsSomeAnd, List, None, ⊤}
 use Rattle.rc_lines.specs.declared.commands.Command.{Command}
-use Rattle.rc_lines.specs.declared.commands.Command.TheVariants.{OpenRead}
+use Rattle.rc_lines.specs.declared.commands.Command.TheVariants.{Flush, OpenRead}
 use Rattle.rc_lines.specs.declared.commands.Reply.{Reply}
 use Rattle.rc_lines.specs.declared.commands.Reply.TheVariants.{Fine}
 use Rattle.rc_lookup.specs.Found.{entry_number}
 use Rattle.rc_lookup.specs.Fillers.{losses}
 use Rattle.rc_stream.specs.Snapshot.{NoneLost}
 use Rattle.rc_lookup.specs.Known.{IsChainKnown}
+use Rattle.rc_lookup.specs.Touched.{IsMadeRecent}
+use Rattle.rc_lookup.specs.Writes.{chain_of}
 use Rattle.rc_shard.specs.declared.shard.Shard.{Shard}
 
 -- the row cache knows all of a partition: its static row, and each row and each gap between rows
@@ -35,3 +41,25 @@ AsksNothingWhereKnown command k before now = OnOpening command (λ key. IsCached
 -- Once a reader of a partition is opened the row cache knows all of the partition, also what no table holds of it, unless memory was too small for that meanwhile: something of the cache was evicted, or not taken in.
 abbrev pub IsKnownOnceOpened : Command → Reply → Shard → Shard → Type 0
 IsKnownOnceOpened command reply k k' = OnOpened command reply (λ key. NoneLost (losses k.unstored.chains) (losses k'.unstored.chains) → IsCachedWhole k' key)
+
+-- the objects of a partition are the most recent ones of the cache, all that were in the recency list; those of all others stand in the order in which they stood
+abbrev pub IsPartitionRecent : List ℕ → Shard → Shard → Type 0
+IsPartitionRecent key k k' = IsSomeAnd (entry_number k'.cache.entries key) (λ id. IsMadeRecent id k.unstored.chains.recency k'.unstored.chains.recency)
+
+-- A hit: once a reader is opened of a partition of which the row cache knew all, the partition's objects are the most recent ones. So what is evicted first is what was used longest ago.
+abbrev pub IsRecentOnceHit : Command → Reply → Shard → Shard → Type 0
+IsRecentOnceHit command reply k k' = OnOpened command reply (λ key. IsCachedWhole k key → IsPartitionRecent key k k')
+
+-- no write that stands in no table names the key
+pub record IsUnwritten (k : Shard) (key : List ℕ) : Type 0 where
+  pub sealed : chain_of k.unstored.sealed key ≡ None
+  pub active : chain_of k.unstored.active key ≡ None
+
+-- a flush leaves the partitions that are written in no memtable, and any other command each
+abbrev pub Spares : Command → Shard → List ℕ → Type 0
+Spares Flush k key = IsUnwritten k key
+Spares command k key = ⊤
+
+-- What the row cache knows whole it knows whole still, unless something of it was evicted or not taken in meanwhile, or written to a table.
+abbrev pub StaysKnown : Command → Shard → Shard → Type 0
+StaysKnown command k k' = NoneLost (losses k.unstored.chains) (losses k'.unstored.chains) → (key : List ℕ) → Spares command k key → IsCachedWhole k key → IsCachedWhole k' key

@@ -14,7 +14,7 @@ ghost use Rattle.rc_memory.specs.Recency.{IsRecency};
 ghost use Rattle.rc_chain.specs.declared.chains.Snap.{Snap};
 ghost use Rattle.rc_lookup.specs.Evictions.{AreEvicted, IsRoomMade};
 ghost use Rattle.rc_lookup.specs.Lives.{IsSameButSlots};
-ghost use Rattle.rc_lookup.specs.LetGo.{AreLetGo};
+ghost use Rattle.rc_lookup.specs.LetGo.{AreLetGo, NoCountFell};
 ghost use Rattle.rc_lookup.specs.Partitions.{AreAsBefore};
 ghost use Rattle.rc_lookup.specs.Writes.{DoAscend};
 ghost use Rattle.rc_snapshots.specs.declared.snaps.Snaps.{Snaps};
@@ -41,8 +41,9 @@ use rc_lookup::footprint::{
 use rc_lookup::row_cache_laws::{
     calls_on_memtables_leave_the_cache, room_leaves_the_entries, the_cache_says_what_lies_below,
 };
+use rc_lookup::unstored_laws::what_a_call_leaves_of_the_room;
 
-// Calls on memtables leave what the row cache has, and all but a write that is put leave what memtables take no more: where objects moved, also where the region got root slots, where chains were read, where both snapshots of a reader were taken, or taken back, where the sealed writes were let go, where objects were evicted, and where room was made. By a write that was put they take more by at most its weight.
+// Calls on memtables leave what the row cache has, each chain of it as well where nothing was lost, and all but a write that is put leave what memtables take no more: where objects moved, also where the region got root slots, where chains were read, where both snapshots of a reader were taken, or taken back, where the sealed writes were let go, where objects were evicted, and where room was made. By a write that was put they take more by at most its weight.
 pub(crate) fn what_calls_leave_of_the_cache()
     ensures moved { (old new : Memory) → AreObjectsMoved old new → KeepsCache old new }
     ensures slots { (old new : Memory) → IsSameButSlots old new → KeepsCache old new }
@@ -50,7 +51,7 @@ pub(crate) fn what_calls_leave_of_the_cache()
     ensures taken { (old mid new : Memory) (first second : Option Snap) → IfSome first (λ s. kind_seen new s ≡ Memtable) → IfSome second (λ s. kind_seen new s ≡ Memtable) → IsTakenIf old mid first → IsTakenIf mid new second → KeepsCache old new }
     ensures back { (old mid new : Memory) (snaps : Snaps) → AreThere old snaps → AreOfTwo snaps → IsReleasedIf snaps.sealed old mid → IsReleasedIf snaps.active mid new → KeepsCache old new }
     ensures let_go { (schema : SchemaValue) (u : Unstored 131072) (new : Memory) (writes later : List Write) → DoAscend u.sealed → HaveWrites schema u writes later → AreLetGo (map (λ e. e.1) u.sealed) u.chains new → KeepsCache u.chains new }
-    ensures evicted { (went : List Member) (gone : List ℕ) (old new : Memory) → ((id : ℕ) → IsNumberIn old.dropped id → chain_at old id ≡ None) → AreEvicted went gone old new → KeepsCache old new }
+    ensures evicted { (went : List Member) (gone : List ℕ) (old new : Memory) → ((id : ℕ) → IsNumberIn old.dropped id → chain_at old id ≡ None) → NoCountFell old new → AreEvicted went gone old new → KeepsCache old new }
     ensures made { (S : ℕ) (old new : Memory) → ((id : ℕ) → IsNumberIn old.dropped id → chain_at old id ≡ None) → IsRoomMade S old new → KeepsCache old new }
     ensures put { (schema : SchemaValue) (w : Write) (old new : Unstored 131072) (writes later : List Write) → IsPutBehind schema w old new → IsRecency old.chains → ((id : ℕ) → IsNumberIn old.chains.dropped id → chain_at old.chains id ≡ None) → IsLiveInChains new.chains →
         HaveWrites schema old writes later → LeavesCache old.chains new.chains × (memtable_bytes new.chains ≤ memtable_bytes old.chains + weight w.change) }
@@ -63,6 +64,7 @@ pub(crate) fn what_calls_leave_of_the_cache()
     evictions_leave_the_use_of_a_chain();
     room_leaves_the_entries();
     the_cache_says_what_lies_below();
+    what_a_call_leaves_of_the_room();
     what_calls_leave_of_memtables();
     what_leaves_the_caches_chains_leaves_the_entries();
 }

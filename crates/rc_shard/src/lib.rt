@@ -1,6 +1,7 @@
 //! One shard: the machine served by memtables in a region, snapshots and tables.
 #![tactic(auto)]
 
+mod compacting;
 mod evicting;
 mod forgetting;
 mod leaving;

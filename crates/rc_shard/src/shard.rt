@@ -33,14 +33,16 @@ ghost use Rattle.rc_folder.specs.Counting.{AreCounted, AreFresh, figures_in};
 ghost use Rattle.rc_folder.specs.Opening.{IsOpeningRefused, OnOpenFault};
 ghost use Rattle.rc_folder.specs.Tabled.{IsNextNumber};
 ghost use Rattle.rc_shard.specs.Counting.{figures_of};
+ghost use Rattle.rc_shard.specs.Compacting.{IsCompactedAsTold};
 ghost use Rattle.rc_shard.specs.Evicting.{IsEvictedAsTold};
-ghost use Rattle.rc_shard.specs.Knowing.{AsksNothingWhereKnown, IsCachedWhole, IsKnownOnceOpened};
+ghost use Rattle.rc_shard.specs.Knowing.{AsksNothingWhereKnown, IsCachedWhole, IsKnownOnceOpened, IsPartitionRecent, IsRecentOnceHit, StaysKnown};
 ghost use Rattle.rc_shard.specs.Opening.{IsOnePinned, IsOpenedAsTold, PinsPartition};
 ghost use Rattle.rc_shard.specs.Stands.{AreOfTwo, AreTwo, IsFullAsTold, holding};
 ghost use Rattle.rc_shard.specs.calls.Keeping.{CountsStay, Keeps, TellsOf};
-ghost use Rattle.rc_shard.specs.calls.Looking.{IsCacheUsed, IsTabled, KeepsOver};
+ghost use Rattle.rc_shard.specs.calls.Looking.{AreKnownStill, IsCacheLeft, IsCacheUsed, IsTabled, KeepsOver, UnlessMemory};
 ghost use Rattle.rc_shard.specs.calls.Storing.{IsFlushAnswered, IsKept};
 
+use crate::compacting::compact;
 use crate::evicting::evict;
 use crate::forgetting::forget_all;
 use crate::leaving::{what_calls_leave_of_the_cache, what_is_live_is_of_memtables};
@@ -157,7 +159,10 @@ impl Machine for Shard {
         ensures pins { IfOk result (λ reply. IsOpenedAsTold command.now reply self.old.readers.items self.old.unstored self.new.readers.items self.new.unstored) }
         ensures known { AsksNothingWhereKnown command.now self.old (W.asks store.old) (W.asks store.new) }
         ensures filled { IfOk result (λ reply. IsKnownOnceOpened command.now reply self.old self.new) }
+        ensures recent { IfOk result (λ reply. IsRecentOnceHit command.now reply self.old self.new) }
+        ensures stays { OnOk result (StaysKnown command.now self.old self.new) }
         ensures evicts { IsEvictedAsTold command.now self.old.unstored.chains self.new.unstored.chains }
+        ensures compacts { IsCompactedAsTold command.now self.old.unstored.chains self.new.unstored.chains }
         ensures figures { IfOk result (λ reply. AreCounted command.now reply (W.asks store.old) (W.asks store.new) (figures_of self.old) (figures_of self.new)) }
     {
         let before = store.asks();
@@ -228,10 +233,14 @@ impl Shard {
         ensures pins { IfOk result (λ reply. IsOpenedAsTold command.now reply self.old.readers.items self.old.unstored self.new.readers.items self.new.unstored) }
         ensures known { AsksNothingWhereKnown command.now self.old (W.asks store.old) (W.asks store.new) }
         ensures filled { IfOk result (λ reply. IsKnownOnceOpened command.now reply self.old self.new) }
+        ensures recent { IfOk result (λ reply. IsRecentOnceHit command.now reply self.old self.new) }
+        ensures stays { OnOk result (StaysKnown command.now self.old self.new) }
         ensures evicts { IsEvictedAsTold command.now self.old.unstored.chains self.new.unstored.chains }
+        ensures compacts { IsCompactedAsTold command.now self.old.unstored.chains self.new.unstored.chains }
         ensures counts { CountsStay self.old self.new }
         ensures told { IfOk result (λ reply. IfSome (figures_in command.now reply) (λ figures. figures ≡ figures_of self.old (W.asks store.old))) }
     {
+        self.unstored.chains.known();
         match command {
             Command::Nothing => Ok(Reply::Nothing),
             Command::SetSchema(schema) => Ok(self.set_schema(schema)),
@@ -276,6 +285,7 @@ impl Shard {
         ensures step { (files : Option Files) → IfOk result (λ reply. Takes ⟦<Shard as Machine>⟧.stands files self.old (Command.Put write.now) reply files self.new) }
         ensures faultless { (n : ℕ) → IfOk result (λ reply. OnFaulty reply (Rose n n)) }
         ensures full { IfOk result (λ reply. IsFullAsTold (Command.Put write.now) reply self.old.folder.schema self.new.unstored) }
+        ensures left { IsCacheLeft self.old self.new }
         ensures err { OnErr result (Keeps ⟦<Shard as Machine>⟧.stands self.old self.new) }
         ensures counts { CountsStay self.old self.new }
     {
@@ -309,6 +319,8 @@ impl Shard {
         ensures pins { IfOk result (λ reply. IsOpenedAsTold (Command.OpenRead id key.now slice.now) reply self.old.readers.items self.old.unstored self.new.readers.items self.new.unstored) }
         ensures known { IsCachedWhole self.old key.now → W.asks store.new ≡ W.asks store.old }
         ensures filled { IfOk result (λ reply. IsKnownOnceOpened (Command.OpenRead id key.now slice.now) reply self.old self.new) }
+        ensures recent { IfOk result (λ reply. IsRecentOnceHit (Command.OpenRead id key.now slice.now) reply self.old self.new) }
+        ensures stays { OnOk result (AreKnownStill self.old self.new) }
         ensures counts { CountsStay self.old self.new }
     {
         if place_of(self.readers.as_slice(), id).is_some() {
@@ -334,6 +346,8 @@ impl Shard {
         ensures says { (m : State) → ⟦<Shard as Machine>⟧.stands (W.files store.old) self.old m → IfOk result (IsTabled m key.now) }
         ensures known { IsCachedWhole self.old key.now → W.asks store.new ≡ W.asks store.old }
         ensures whole { OnOk result (NoneLost (losses self.old.unstored.chains) (losses self.new.unstored.chains) → IsCachedWhole self.new key.now) }
+        ensures stays { UnlessMemory result (AreKnownStill self.old self.new) }
+        ensures hit { OnOk result (IsCachedWhole self.old key.now → IsPartitionRecent key.now self.old self.new) }
         ensures keeps { KeepsOver ⟦<Shard as Machine>⟧.stands (W.files store.old) self.old self.new }
         ensures beside { IsCacheUsed self.old self.new }
         ensures damaged { IfErr result (IsDamageOf self.old.folder.schema key.now self.old.folder.infos) }
@@ -354,6 +368,8 @@ impl Shard {
         ensures says { (files : Option Files) (m : State) → ⟦<Shard as Machine>⟧.stands files self.old m → IfOk result (λ o. IfSome o (IsTabled m key.now)) }
         ensures known { IsCachedWhole self.old key.now → IfOk result IsSome }
         ensures whole { IfOk result (λ o. IfSome o (λ _. IsCachedWhole self.new key.now)) }
+        ensures stays { (q : List ℕ) → IsCachedWhole self.old q → IsCachedWhole self.new q }
+        ensures hit { IfOk result (λ o. IfSome o (λ _. IsPartitionRecent key.now self.old self.new)) }
         ensures keeps { Keeps ⟦<Shard as Machine>⟧.stands self.old self.new }
         ensures beside { IsCacheUsed self.old self.new }
     {
@@ -363,6 +379,7 @@ impl Shard {
         let _columns = schema.cols();
         let _entry = schema.largest_entry();
         let _statics = schema.largest_static();
+        self.unstored.chains.known();
         lookup(alloc, &mut self.cache, &mut self.unstored.chains, key)
     }
 
@@ -376,6 +393,7 @@ impl Shard {
         requires { (m : State) × ⟦<Shard as Machine>⟧.stands (W.files store.old) self.old m }
         ensures says { (m : State) → ⟦<Shard as Machine>⟧.stands (W.files store.old) self.old m → IfOk result (IsTabled m key.now) }
         ensures whole { OnOk result (NoneLost (losses self.old.unstored.chains) (losses self.new.unstored.chains) → IsCachedWhole self.new key.now) }
+        ensures stays { UnlessMemory result (AreKnownStill self.old self.new) }
         ensures keeps { KeepsOver ⟦<Shard as Machine>⟧.stands (W.files store.old) self.old self.new }
         ensures beside { IsCacheUsed self.old self.new }
         ensures damaged { IfErr result (IsDamageOf self.old.folder.schema key.now self.old.folder.infos) }
@@ -404,6 +422,7 @@ impl Shard {
         ensures stream { IfOk result (λ list. list ≡ stream_of (fragments read.now)) }
         ensures refused { IfErr result (λ error. error ≡ StreamErr.NoMemory) }
         ensures whole { OnOk result (NoneLost (losses self.old.unstored.chains) (losses self.new.unstored.chains) → IsCachedWhole self.new key.now) }
+        ensures stays { OnOk result (AreKnownStill self.old self.new) }
         ensures keeps { (files : Option Files) (m : State) (said : List Change) → ⟦<Shard as Machine>⟧.stands files self.old m → IsSaid m key.now said → IsJoinOf read.now said → ⟦<Shard as Machine>⟧.stands files self.new m }
         ensures beside { IsCacheUsed self.old self.new }
     {
@@ -413,6 +432,7 @@ impl Shard {
         let _columns = schema.cols();
         let _entry = schema.largest_entry();
         let _statics = schema.largest_static();
+        self.unstored.chains.known();
         match populate(
             alloc,
             &mut self.cache,
@@ -441,7 +461,8 @@ impl Shard {
         ensures pins { IfOk result (λ _. IsOnePinned id key.now self.old.readers.items self.old.unstored self.new.readers.items self.new.unstored) }
         ensures opened { (files : Option Files) (m : State) → ⟦<Shard as Machine>⟧.stands files self.old m → (told : IsTabled m key.now tables) →
             IfOk result (λ _. ⟦<Shard as Machine>⟧.stands files self.new (record m { readers = m.readers ++ (id, reader_with m key.now slice.now told.said) ∷ [] })) }
-        ensures whole { IfOk result (λ _. IsCachedWhole self.old key.now → IsCachedWhole self.new key.now) }
+        ensures whole { IfOk result (λ _. (q : List ℕ) → IsCachedWhole self.old q → IsCachedWhole self.new q) }
+        ensures recency { IfOk result (λ _. (self.new.cache.entries ≡ self.old.cache.entries) × (self.new.unstored.chains.recency ≡ self.old.unstored.chains.recency)) }
         ensures err { OnErr result (Keeps ⟦<Shard as Machine>⟧.stands self.old self.new) }
         ensures counts { CountsStay self.old self.new }
     {
@@ -459,6 +480,7 @@ impl Shard {
     fn read(&mut self, alloc: Global, id: u32, count: u32) -> Result<Reply, AllocError>
         requires { (files : Option Files) × (m : State) × ⟦<Shard as Machine>⟧.stands files self.old m }
         ensures step { (files : Option Files) → IfOk result (λ reply. Takes ⟦<Shard as Machine>⟧.stands files self.old (Command.Read id count) reply files self.new) }
+        ensures left { IsCacheLeft self.old self.new }
         ensures faultless { (n : ℕ) → IfOk result (λ reply. OnFaulty reply (Rose n n)) }
         ensures err { OnErr result (Keeps ⟦<Shard as Machine>⟧.stands self.old self.new) }
         ensures counts { CountsStay self.old self.new }
@@ -477,6 +499,7 @@ impl Shard {
     fn close_reader(&mut self, id: u32) -> Reply
         requires { (files : Option Files) × (m : State) × ⟦<Shard as Machine>⟧.stands files self.old m }
         ensures step { (files : Option Files) → Takes ⟦<Shard as Machine>⟧.stands files self.old (Command.Close id) result files self.new }
+        ensures left { IsCacheLeft self.old self.new }
         ensures faultless { (n : ℕ) → OnFaulty result (Rose n n) }
         ensures counts { CountsStay self.old self.new }
     {
@@ -496,12 +519,14 @@ impl Shard {
     fn flush<W: Store>(&mut self, alloc: Global, store: &mut W) -> Result<Reply, AllocError>
         requires { (m : State) × ⟦<Shard as Machine>⟧.stands (W.files store.old) self.old m }
         ensures step { IfOk result (λ reply. Takes ⟦<Shard as Machine>⟧.stands (W.files store.old) self.old Command.Flush reply (W.files store.new) self.new) }
+        ensures stays { OnOk result (StaysKnown Command.Flush self.old self.new) }
         ensures err { OnErr result (Stops ⟦<Shard as Machine>⟧.stands (W.files store.old) self.old Command.Flush (W.files store.new) self.new) }
         ensures faults { FaultsAreCounted result (W.faults store.old) (W.faults store.new) }
         ensures asks { W.asks store.new ≡ W.asks store.old }
         ensures counts { CountsStay self.old self.new }
     {
         what_is_left_stays_where_the_snapshots_see_the_same::<131_072>();
+        self.unstored.chains.known();
         if self.unstored.is_empty() {
             return Ok(Reply::Refused(Refusal::NothingToFlush));
         }
@@ -587,19 +612,6 @@ fn stream_read(alloc: Global, read: &Mutation) -> Result<ListFrags, StreamErr>
     match read.fragments(alloc) {
         Ok(list) => Ok(ListFrags::new(list)),
         Err(_) => Err(StreamErr::NoMemory),
-    }
-}
-
-// Empties sparse segments, one after another, at most so many.
-fn compact(unstored: &mut Unstored<131_072>, count: u32)
-    ensures { (schema : SchemaValue) → IsKept schema unstored.old unstored.new }
-{
-    what_a_call_leaves_of_the_room();
-    what_calls_leave_of_the_cache();
-    for _round in 0..count {
-        if !unstored.compact_one() {
-            return;
-        }
     }
 }
 

@@ -23,7 +23,7 @@ use Rattle.rc_lookup.specs.Rest.{LeavesRest}
 abbrev pub KnowsStaticRow : Memory → Snap → Type 0
 KnowsStaticRow m s = IsTrue (flagged (kind_seen m s) (static_states (versions_seen m s)))
 
--- Any number of fills through a snapshot. All else is left; each chain is there still and used as before, or it is gone and its number is to be told, and none came to be. Where nothing was lost, a static row that was known still is, and nothing went out of the recency list.
+-- Any number of fills through a snapshot. All else is left; each chain is there still and used as before, or it is gone and its number is to be told, and none came to be. Where nothing was lost, a static row that was known still is, nothing went out of the recency list, and each other chain is as it was.
 pub record IsFilledThrough (S : ℕ) (s : Snap) (old new : Memory) : Type 0 where
   pub done : AreFillsDone S s.chain s.pin old new
   pub rest : LeavesRest old new
@@ -32,6 +32,7 @@ pub record IsFilledThrough (S : ℕ) (s : Snap) (old new : Memory) : Type 0 wher
   pub still : (id : ℕ) → IsNumberIn old.dropped id → IsNumberIn new.dropped id
   pub statics : NoneLost (losses old) (losses new) → KnowsStaticRow old s → KnowsStaticRow new s
   pub listed : NoneLost (losses old) (losses new) → (w : Member) → Contains old.recency w → Contains new.recency w
+  pub beside : NoneLost (losses old) (losses new) → (id : ℕ) → (id ≡ s.chain → ⊥) → chain_at new id ≡ chain_at old id
 
 -- All else is left but for one snapshot, of a chain of the cache, which is there then and was not before: memtables, what their snapshots see, and that no chain of the cache is to be dropped.
 pub record LeavesBut (s : Snap) (old new : Memory) : Type 0 where

@@ -1,4 +1,5 @@
 -- What calls leave of the row cache, and of what memtables take.
+--     AreStillThere  each chain of the cache is there still
 --     LeavesCache    the cache has what it had
 --     KeepsCache     so it has, and memtables take no more
 --     IsFull         memory is full of what memtables take
@@ -10,20 +11,30 @@ use Rattle.lsa_region.specs.Region.{live_bytes}
 use Rattle.rc_position.specs.Position.{bytes_cmp}
 use Rattle.rc_schema.specs.SchemaValue.{SchemaValue}
 use Rattle.rc_mutation.specs.declared.mutations.Partition.{Partition}
-use Rattle.rc_memory.specs.Memory.{Memory}
+use Rattle.rc_registry.specs.ChainKind.TheVariants.{Cache}
+use Rattle.rc_memory.specs.Memory.{KeptChain, Memory, chain_at}
 use Rattle.rc_lookup.specs.Entries.{AreEntries}
+use Rattle.rc_lookup.specs.Fillers.{losses}
 use Rattle.rc_lookup.specs.Found.{entry_number}
 use Rattle.rc_lookup.specs.Saying.{Below, CacheSays}
 use Rattle.rc_lookup.specs.Footprint.{AreInUse, HaveOneVersion, memtable_bytes}
+use Rattle.rc_lookup.specs.Staying.{HasSameContent, IsEntryStill}
+use Rattle.rc_stream.specs.Snapshot.{NoneLost}
 use Rattle.rc_shard.specs.Cached.{AreUntaken}
 
--- the cache says what it said, and its entries are the same; each of its chains has one version and is in use, and no snapshot of one is taken, where that was so
+-- each chain of the cache is there still, with what it had
+abbrev pub AreStillThere : Memory → Memory → Type 0
+AreStillThere old new = (id : ℕ) (k : KeptChain) → chain_at old id ≡ Some k → k.chain.kind ≡ Cache → (now : KeptChain) × (chain_at new id ≡ Some now) × HasSameContent k now
+
+-- Nothing that was lost is forgotten; and where nothing was lost each chain of the cache is there still. The cache says what it said, and its entries are the same; each of its chains has one version and is in use, and no snapshot of one is taken, where that was so
 pub record LeavesCache (old new : Memory) : Type 0 where
   pub says : (schema : SchemaValue) (below : Below) → CacheSays schema below old → CacheSays schema below new
   pub entries : (entries : List (List ℕ × ℕ)) → AreEntries entries old → AreEntries entries new
   pub one : HaveOneVersion old → HaveOneVersion new
   pub used : AreInUse old → AreInUse new
   pub untaken : AreUntaken old → AreUntaken new
+  pub lost : losses old ≤ losses new
+  pub still : NoneLost (losses old) (losses new) → AreStillThere old new
 
 -- so, and memtables take no more than they did
 pub record KeepsCache (old new : Memory) : Type 0 where
@@ -46,9 +57,11 @@ pub record HasCache (entries : List (List ℕ × ℕ)) (m : Memory) : Type 0 whe
   pub used : AreInUse m
   pub untaken : AreUntaken m
 
--- partitions left the cache, which has all else that it had, and memtables take no more
+-- partitions left the cache, which has all else that it had: other entries have their chains still, where nothing was lost; and memtables take no more
 pub record Forgets (parts : List Partition) (before now : List (List ℕ × ℕ)) (old new : Memory) : Type 0 where
   pub says : (schema : SchemaValue) (below : Below) → CacheSays schema below old → CacheSays schema below new
   pub has : HasCache before old → HasCache now new
   pub found : HasCache before old → (key : List ℕ) (id : ℕ) → entry_number now key ≡ Some id → (entry_number before key ≡ Some id) × AreOthers key parts
   pub bytes : memtable_bytes new ≤ memtable_bytes old
+  pub lost : losses old ≤ losses new
+  pub stays : HasCache before old → NoneLost (losses old) (losses new) → (key : List ℕ) → AreOthers key parts → IsEntryStill key before old now new

@@ -8,7 +8,7 @@ use Rattle.rc_row_cache.specs.Calls.{IsTakenOf}
 use Rattle.rc_row_cache.specs.Saying.{Below, CacheSays, phase_pinned}
 use Rattle.rc_schema.specs.SchemaValue.{SchemaValue}
 use Rattle.std.specs.Prelude.{◌≡◌, ℕ, List, None, OnErr, Option, IfNone, IsSomeAnd}
-use Rattle.rc_memory.specs.Memory.{KeptChain, Member, Memory}
+use Rattle.rc_memory.specs.Memory.{KeptChain, Member, Memory, chain_at}
 use Rattle.rc_row_cache.specs.Found.{entry_number}
 use Rattle.rc_row_cache.specs.Footprint.{HaveOneVersion, memtable_bytes}
 use Rattle.rc_lookup.specs.Known.{IsChainKnown, IsPartitionKnown, IsSnapKnown}
@@ -18,7 +18,9 @@ use Rattle.rc_lookup.specs.calls.Reading.{without_snap}
 use Rattle.rc_lookup.specs.Touched.{IsMadeRecent}
 use Rattle.rc_lookup.proofs.Reordered.{entries-reordered, if-err, if-missed, looked-reordered, none-unread, rest-reordered}
 use Rattle.rc_lookup.proofs.Rest.{rest-looked, rest-then, rest-told}
-use Rattle.rc_lookup.proofs.Kept.{back-used, chain-known, found, is-some, none-there, same-number, snap-known, if-found, looked, same-source, told-found, told-looked, looked-none, unread}
+use Rattle.rc_lookup.proofs.Kept.{back-used, chain-known, found, is-some, none-there, same-number, snap-known, still, if-found, looked, same-source, told-found, told-looked, looked-none, unread}
+use Rattle.rc_lookup.specs.laws.Staying.{still-same}
+use Rattle.rc_lookup.proofs.Staying.{entry-there, still-reordered}
 use Rattle.rc_lookup.proofs.looking.lookup.Goals as goal
 
 pub read_recent-requires : goal.read_recent-requires
@@ -189,3 +191,25 @@ returns-in-Err-clause-err g c =
     let old = c.args.chains.now in
     let e = subst (λ r. OnErr r (c.snapshot.new.chains ≡ with_dropped [] old)) c.in-Err.is c.snapshot.ensures.err in
     record { region = ap (λ (m : Memory). m.region) e; recency = ap (λ (m : Memory). m.recency) e }
+
+pub returns-in-Ok-Some-clause-stays : goal.returns-in-Ok-Some-clause-stays
+returns-in-Ok-Some-clause-stays g c = λ q id e on.
+    let s = c.in-Ok-Some.snap in
+    let old = c.args.chains.now in
+    let mid = c.snapshot.new.chains in
+    let taken : IsTakenOf c.args.key.now c.snapshot.new.self.entries (with_dropped [] c.args.chains.now) c.snapshot.new.chains c.in-Ok-Some.snap = subst (λ r. IfOk r (λ o. IfSome o (λ (x : Snap). IsTakenOf c.args.key.now c.snapshot.new.self.entries (with_dropped [] c.args.chains.now) c.snapshot.new.chains x))) (c.in-Ok-Some.is ∙ ap Ok c.in-Ok-Some.field-0-is) c.snapshot.ensures.taken in (
+      c.snapshot.ensures.forgotten.stays q id e (entry-there old id c.known.ensures.told on),
+      still-reordered old (without_snap s mid) c.read_recent.new.chains c.read_recent.ensures.back id (still s (with_dropped [] old) mid taken.taken taken.there.0 id),
+    )
+
+pub returns-in-Ok-None-clause-stays : goal.returns-in-Ok-None-clause-stays
+returns-in-Ok-None-clause-stays g c = λ q id e on.
+    let old = c.args.chains.now in
+    let absent = subst (λ r. IfOk r (λ o. IfNone o ((entry_number c.snapshot.new.self.entries c.args.key.now ≡ None) × (c.snapshot.new.chains ≡ with_dropped [] old)))) (c.in-Ok-None.is ∙ ap Ok c.in-Ok-None.field-0-is) c.snapshot.ensures.absent in
+    (c.snapshot.ensures.forgotten.stays q id e (entry-there old id c.known.ensures.told on), still-same old c.snapshot.new.chains id (ap (λ (m : Memory). chain_at m id) absent.1))
+
+pub returns-in-Err-clause-stays : goal.returns-in-Err-clause-stays
+returns-in-Err-clause-stays g c = λ q id e on.
+    let old = c.args.chains.now in
+    let same = subst (λ r. OnErr r (c.snapshot.new.chains ≡ with_dropped [] old)) c.in-Err.is c.snapshot.ensures.err in
+    (c.snapshot.ensures.forgotten.stays q id e (entry-there old id c.known.ensures.told on), still-same old c.snapshot.new.chains id (ap (λ (m : Memory). chain_at m id) same))

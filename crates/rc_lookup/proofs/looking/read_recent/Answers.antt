@@ -1,5 +1,5 @@
 -- Where the snapshot's stream is given its chain is made recent.
-use Rattle.std.proofs.Common.{◌≡◌, ℕ, List, Some, sym, ap, ◌∙◌, subst, arith}
+use Rattle.std.proofs.Common.{sym, ap, ◌∙◌, subst, arith}
 use Rattle.std.specs.Prelude.{IfNone, IfOk, IfSome, Ok}
 use Rattle.rc_memory.specs.Memory.{HasChain, Memory}
 use Rattle.rc_lookup.specs.Known.{IsSnapKnown}

@@ -25,6 +25,7 @@ use Rattle.rc_lookup.proofs.Gathered.{on-also}
 use Rattle.rc_lookup.proofs.Kept.{same-source}
 use Rattle.rc_lookup.proofs.Leaving.{own-below}
 use Rattle.rc_lookup.proofs.Statics.{statics-fit, statics-small}
+use Rattle.rc_lookup.proofs.Staying.{entry-entered, on-done}
 use Rattle.rc_lookup.proofs.Turns.{FillLaws}
 use Rattle.rc_lookup.proofs.populating.enter_read.Goals as goal
 
@@ -252,3 +253,54 @@ returns-in-Err-clause-says g c = λ schema below writes over fits same.
     let pt : source_at_head (m ∷ []) ≡ m.pt = sym (c.a_mutations_stream_reads_it.ensures.pt m c.holds_together.ensures) ∙ ap (λ (t : Stream). t.head.pt) stream in
     let statics : source_at_static (m ∷ []) ≡ m.statics = sym (c.a_mutations_stream_reads_it.ensures.statics m c.holds_together.ensures) ∙ ap (λ (t : Stream). t.head.statics) stream in
     c.enter.ensures.says schema below (λ _. writes) fits (sym same.head ∙ pt) (sym same.statics ∙ statics) over.says
+
+-- ---- what stays
+
+pub returns-in-Ok-Some-clause-stays : goal.returns-in-Ok-Some-clause-stays
+returns-in-Ok-Some-clause-stays g c =
+    let S = g.row.S in
+    let key = c.args.key.now in
+    let m = c.args.read.now in
+    let phase = c.args.phase in
+    let old = c.args.chains.now in
+    let mid = c.enter.new.chains in
+    let es = c.enter.new.self.entries in
+    let s = c.in-Ok-Some.snap in
+    let is = c.in-Ok-Some.is ∙ ap Ok c.in-Ok-Some.field-0-is in
+    let e : IsEntered S key m.pt m.statics phase es old mid s = subst (λ r. IfOk r (λ o. IfSome o (IsEntered S key m.pt m.statics phase es old mid))) is c.enter.ensures.entered in
+    let fills : FillLaws = record {
+      memtable = c.a_fill_spares_memtables_and_readers.ensures.memtable;
+      sees = c.a_fill_spares_memtables_and_readers.ensures.sees;
+      pins = c.a_fill_spares_memtables_and_readers.ensures.pins;
+      told = c.a_fill_spares_memtables_and_readers.ensures.told;
+      still = c.a_fill_spares_memtables_and_readers.ensures.still;
+      absent = c.a_fill_spares_memtables_and_readers.ensures.absent;
+      budget = c.a_fill_takes_no_segment.ensures.budget;
+      bytes = c.what_calls_leave_of_memtables.ensures.filled;
+      one = c.each_chain_of_the_cache_has_one_version.ensures.filled;
+      used = c.chains_of_the_cache_stay_in_use.ensures.filled;
+    } in
+    let rooms : RoomLaws = record { bytes = c.what_calls_leave_of_memtables.ensures.made; one = c.each_chain_of_the_cache_has_one_version.ensures.made; used = c.chains_of_the_cache_stay_in_use.ensures.made } in
+    let made : (mid : Memory) → IsRoomMade S old mid → LeavesRest old mid = λ mid. rest-made rooms fills S old mid c.known.ensures.rule in
+    let but : LeavesBut s old mid = entered-but S key m.pt m.statics phase es old mid s e (made e.made e.room) c.enter.ensures.seen
+    (c.what_calls_leave_of_memtables.ensures.entered S key m.pt m.statics phase es old mid s e)
+    (c.each_chain_of_the_cache_has_one_version.ensures.entered S key m.pt m.statics phase es old mid s e)
+    (c.chains_of_the_cache_stay_in_use.ensures.entered S key m.pt m.statics phase es old mid s e) in
+    let new = c.fill_entry.new.chains in
+    let now = c.what_leaves_the_caches_chains_leaves_the_entries.ensures.entries es mid new c.fill_entry.ensures.cached c.enter.ensures.entries in
+    let less : losses old ≤ losses mid = omega (arith, but.counts.evicted, but.counts.skipped) in
+    on-done c.fill_entry.result _
+    (entry-entered S key m.pt m.statics phase es old mid new s e (made e.made e.room) c.counts_in_range.ensures less c.fill_entry.ensures.lost c.fill_entry.ensures.beside
+    c.args.cache.now.entries c.requires.entries now c.enter.ensures.others)
+
+pub returns-in-Ok-None-clause-stays : goal.returns-in-Ok-None-clause-stays
+returns-in-Ok-None-clause-stays g c = λ none.
+    let S = g.row.S in
+    let key = c.args.key.now in
+    let m = c.args.read.now in
+    let phase = c.args.phase in
+    let old = c.args.chains.now in
+    let mid = c.enter.new.chains in
+    let es = c.enter.new.self.entries in
+    let out : IsKeptOut S old mid = (subst (λ r. IfOk r (λ o. IfNone o ((entry_number es key ≡ None) × IsKeptOut S old mid))) (c.in-Ok-None.is ∙ ap Ok c.in-Ok-None.field-0-is) c.enter.ensures.kept_out).1 in
+    absurd (kept-out-lost S old mid c.counts_in_range.ensures out none)

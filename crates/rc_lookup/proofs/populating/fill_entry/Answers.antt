@@ -1,5 +1,5 @@
 -- The snapshot is taken back, and its chain dropped where it is to be.
-use Rattle.std.proofs.Common.{◌≡◌, [], Option, Some, IsSome, inl, inr, refl, sym, subst, arith}
+use Rattle.std.proofs.Common.{◌≡◌, [], Option, Some, IsSome, inl, inr, refl, sym, ◌∙◌, subst, arith}
 use Rattle.std.specs.Prelude.{Contains}
 use Rattle.rc_core.specs.Version.{end_position}
 use Rattle.rc_memory.specs.Changes.{member}
@@ -19,7 +19,7 @@ use Rattle.rc_lookup.specs.calls.Entering.{KnowsStaticRow}
 use Rattle.rc_lookup.specs.calls.Reading.{without_snap}
 use Rattle.rc_lookup.proofs.Gathered.{on-also}
 use Rattle.rc_lookup.proofs.Kept.{has-pin}
-use Rattle.rc_lookup.proofs.Swept.{IsSweptThen, SweepLaws, back-there, but-then, known-swept, rest-swept, swept-lost, swept-then}
+use Rattle.rc_lookup.proofs.Swept.{IsSweptThen, SweepLaws, back-there, but-then, known-swept, rest-swept, swept-beside, swept-lost, swept-then}
 use Rattle.rc_lookup.proofs.populating.fill_entry.Goals as goal
 
 pub release-requires : goal.release-requires
@@ -75,6 +75,22 @@ returns-clause-lost g c =
     let same = swept-lost s x new h.chain h.there h.cached swept in
     let counts = through.rest.counts in
     omega (arith, same, counts.evicted, counts.skipped)
+
+pub returns-clause-beside : goal.returns-clause-beside
+returns-clause-beside g c = λ none id ne.
+    let S = g.row.S in
+    let s = c.args.snap in
+    let old = c.args.chains.now in
+    let x = c.fill_read-filled.new.chains in
+    let new = c.sweep.new.self in
+    let through = c.fill_read-filled.ensures.through in
+    let h : HasCacheSnapshot x s.chain s.pin = (c.each_snapshot_pins_what_it_pinned.ensures.filled (λ _. []) s.chain s.pin S s.chain s.pin old x through.done c.requires.stands.1.snapshot).0 in
+    let back : c.release.new.self ≡ without_snap s x = c.release.ensures in
+    let swept : IsSweptThen s x new h.chain h.there h.cached = swept-then s x new h.chain h.there h.cached
+    (subst (λ (y : Memory). (k : KeptChain) → chain_at y s.chain ≡ Some k → IsIdle y s.chain k.chain → IsChainDropped s.chain y.recency y new) back c.sweep.ensures.dropped)
+    (subst (λ (y : Memory). (k : KeptChain) → chain_at y s.chain ≡ Some k → (IsIdle y s.chain k.chain → ⊥) → new ≡ y) back c.sweep.ensures.kept) in
+    let unlost : NoneLost (losses old) (losses x) = subst (NoneLost (losses old)) (swept-lost s x new h.chain h.there h.cached swept) none in
+    swept-beside s x new h.chain h.there h.cached swept id ne ∙ through.beside unlost id ne
 
 pub returns-clause-cached : goal.returns-clause-cached
 returns-clause-cached g c =

@@ -5,6 +5,7 @@ use Rattle.rc_lookup.specs.Rest.{LeavesRest}
 use Rattle.rc_lookup.proofs.Leaving.{FoundBeside, entry-cached, none-left, others-were}
 use Rattle.rc_lookup.proofs.Numbered.{there-or-not}
 use Rattle.rc_lookup.proofs.Rest.{rest-detached, rest-none}
+use Rattle.rc_lookup.proofs.Staying.{entry-beside}
 use Rattle.rc_lookup.proofs.populating.forget_entry.Goals as goal
 
 pub returns-clause-none : goal.returns-clause-none
@@ -34,3 +35,12 @@ returns-clause-rest g c =
     (c.what_calls_leave_of_memtables.ensures.detached id old new d)
     (c.each_chain_of_the_cache_has_one_version.ensures.detached id old new d)
     (c.chains_of_the_cache_stay_in_use.ensures.detached id old new (λ k there. (c.requires.says.2 id k there (cached k there)).settled) d))
+
+pub returns-clause-stays : goal.returns-clause-stays
+returns-clause-stays g c =
+    let found : FoundBeside c.args.key.now c.args.cache.now.entries c.forget.new.self.entries = λ q. ap (λ es. entry_number es q) c.forget.ensures.gone ∙ c.each_key_is_found.ensures.gone c.args.cache.now.entries c.args.key.now q c.requires.entries.ascend in
+    let key = c.args.key.now in
+    let a = c.args.cache.now.entries in
+    let b = c.forget.new.self.entries in
+    entry-beside key a b c.args.chains.now c.forget.new.chains c.requires.entries (c.forget.ensures.entries c.requires.entries)
+    (none-left key a b found) (others-were key a b found) (λ none. (c.forget.ensures.none none).1) c.forget.ensures.detached

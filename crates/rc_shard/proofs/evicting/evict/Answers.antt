@@ -1,6 +1,5 @@
 -- One more went; or none is left.
-use Rattle.std.proofs.Common.{[], ◌∷◌, refl, sym, ap, ◌∙◌, subst, arith}
-use Rattle.rc_memory.specs.Memory.{Memory}
+use Rattle.std.proofs.Common.{[], ◌∷◌, sym, ap, ◌∙◌, subst, arith}
 use Rattle.rc_lookup.specs.Unstored.{Unstored}
 use Rattle.rc_shard.proofs.Evicted.{IsUnderway, all-went, none-left, nothing-moved, one-further}
 use Rattle.rc_shard.specs.calls.Storing.{IsKept}
@@ -20,7 +19,7 @@ loop-left-preserved c =
             stands = λ writes later h. c.evict_one.ensures.stands schema writes later h;
             seen = c.evict_one.ensures.seen;
             room = c.evict_one.ensures.room;
-            cache = c.what_calls_leave_of_the_cache.ensures.evicted (one.0 ∷ []) one.1 old.chains new.chains c.known.ensures.told one.2;
+            cache = c.what_calls_leave_of_the_cache.ensures.evicted (one.0 ∷ []) one.1 old.chains new.chains c.known.ensures.told c.evict_one.ensures.room.counts one.2;
           }),
       one-further c.evictions_follow_one_another.ensures.both c.args.count c.loop-left.left c.args.unstored.now.chains old.chains new.chains (omega arith) c.loop-left.invariant.1 one,
     )

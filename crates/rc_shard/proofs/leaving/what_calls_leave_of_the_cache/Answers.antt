@@ -1,9 +1,11 @@
 -- Each call leaves chains of the cache as they were, or room was made.
-use Rattle.std.proofs.Common.{ap, arith}
+use Rattle.std.proofs.Common.{◌+◌, ◌∙◌, ap, arith}
+use Rattle.rc_memory.specs.declared.counts.Counts.{Counts}
 use Rattle.rc_memory.specs.Memory.{IsUntouched, Memory}
 use Rattle.rc_chain.specs.declared.chains.Snap.{Snap}
+use Rattle.rc_lookup.specs.Fillers.{losses}
 use Rattle.rc_shard.specs.calls.Caching.{KeepsCache}
-use Rattle.rc_shard.proofs.Caching.{BesideLaws, ReadLaws, RoomLaws, SameLaws, back-if, keeps-itself, keeps-then, kinds-taken, leaves-beside, leaves-evicted, leaves-read, leaves-untouched, taken-if, there-behind}
+use Rattle.rc_shard.proofs.Caching.{BesideLaws, ReadLaws, RoomLaws, SameLaws, back-if, keeps-itself, keeps-then, kinds-taken, leaves-beside, leaves-evicted, leaves-read, leaves-untouched, lost-neither, taken-if, there-behind}
 use Rattle.rc_shard.proofs.leaving.what_calls_leave_of_the_cache.Goals as goal
 
 pub returns : goal.returns
@@ -15,6 +17,7 @@ returns c =
     let uses = c.chains_of_the_cache_stay_in_use.ensures in
     let takes = c.what_calls_leave_of_memtables.ensures in
     let evicts = c.evictions_leave_the_use_of_a_chain.ensures in
+    let rooms = c.what_a_call_leaves_of_the_room.ensures in
     let same : SameLaws = record { says = says.same; cached = c.each_change_leaves_the_caches_chains.ensures.moved; entries = entries; one = ones.moved; used = uses.moved } in
     let beside : BesideLaws = record { says = says.beside; cached = calls.entries; entries = entries; one = ones.beside } in
     let room : RoomLaws = record { says = says.evicted; cached = c.room_leaves_the_entries.ensures.evicted; entries = entries; one = ones.evicted; used = uses.evicted; kind = evicts.kind; pins = evicts.pins } in
@@ -26,26 +29,32 @@ returns c =
           record { left = leaves-untouched same old new u; bytes = takes.moved old new u });
       before = λ old new h. record { left = leaves-read old new h read; bytes = (let e = takes.before old new h in omega (arith, e)) };
       taken = λ old mid new first second seen more a b. (
-          let step = taken-if beside calls.taken uses.taken takes.taken in
+          let step = taken-if beside calls.taken uses.taken takes.taken rooms.taken in
           keeps-then old mid new (step old mid first (kinds-taken mid new first second b seen) a) (step mid new second more b));
       back = λ old mid new snaps there two a b. (
-          let step : (s : Snap) (m n : Memory) → _ = λ s m n h r. record { left = leaves-beside beside m n (calls.released s m n h r) (uses.released s m n h r); bytes = takes.released s m n h.pin r } in
+          let step : (s : Snap) (m n : Memory) → _ = λ s m n h r. record { left = leaves-beside beside m n (calls.released s m n h r) (uses.released s m n h r) (rooms.released s m n h r).counts; bytes = takes.released s m n h.pin r } in
           keeps-then old mid new (back-if KeepsCache keeps-itself step snaps.sealed old mid there.sealed a) (back-if KeepsCache keeps-itself step snaps.active mid new (there-behind snaps.sealed snaps.active old mid there.sealed there.active two a) b));
       let_go = λ schema u new writes later ascend h gone. record {
-        left = leaves-beside beside u.chains new (calls.let_go 131072 schema u new writes later ascend h gone) (uses.let_go 131072 schema u new writes later ascend h gone);
+        left = leaves-beside beside u.chains new (calls.let_go 131072 schema u new writes later ascend h gone) (uses.let_go 131072 schema u new writes later ascend h gone) (rooms.let_go 131072 schema u new writes later ascend h gone).counts;
         bytes = takes.let_go 131072 schema u new writes later ascend h gone;
       };
-      evicted = λ went gone old new told a. record { left = leaves-evicted room went gone old new told a; bytes = takes.evicted went gone old new a };
-      made = λ S old new told h. record { left = leaves-evicted room h.went h.gone old new told h.evicted; bytes = takes.made S old new h };
+      evicted = λ went gone old new told fell a. record { left = leaves-evicted room went gone old new told a fell; bytes = takes.evicted went gone old new a };
+      made = λ S old new told h. record { left = leaves-evicted room h.went h.gone old new told h.evicted (rooms.made S old new h).counts; bytes = takes.made S old new h };
       put = λ schema w old new writes later p rule told live h. (
         let b = calls.put 131072 schema w old new writes later rule h p in
-            let first = leaves-evicted room b.room.went b.room.gone old.chains b.mid told b.room.evicted in
+            let first = leaves-evicted room b.room.went b.room.gone old.chains b.mid told b.room.evicted (rooms.made 131072 old.chains b.mid b.room).counts in
+            let since = ap (λ (c : Counts). c.evicted + c.skipped) b.counts in
             record {
               says = λ t below x. says.beside t below b.mid new.chains b.same (first.says t below x);
               entries = λ es x. entries es b.mid new.chains (calls.entries b.mid new.chains b.same) (first.entries es x);
               one = λ x. ones.beside b.mid new.chains b.same (first.one x);
               used = uses.put 131072 schema w old new writes later rule h p;
               untaken = λ x id k there kind. first.untaken x id k (b.same.none id k kind there) kind;
+              lost = (let before = first.lost in omega (arith, before, since));
+              still = λ none id k there kind. (
+                  let u = lost-neither (losses old.chains) (losses b.mid) (losses new.chains) first.lost (omega (arith, since)) none in
+                  let now = first.still u.0 id k there kind in
+                  (now.0, b.same.stays id now.0 (now.2.kind ∙ kind) now.1, now.2));
             },
         c.a_write_is_of_a_memtable.ensures.put 131072 schema w old new writes later p rule h live,
       );

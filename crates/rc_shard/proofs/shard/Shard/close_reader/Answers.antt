@@ -8,6 +8,7 @@ use Rattle.rc_lookup.specs.Readers.{IsNoneOf}
 use Rattle.rc_opened.specs.declared.opened.Opened.{Opened}
 use Rattle.rc_shard.specs.declared.shard.Shard.{Shard}
 use Rattle.rc_shard.specs.Stands.{AreOfTwo}
+use Rattle.rc_shard.proofs.Caching.{leaves-itself}
 use Rattle.rc_shard.proofs.Places.{nowhere-of, place-of}
 use Rattle.rc_shard.proofs.Taking.{found-at, takes-close, takes-no-close}
 use Rattle.rc_shard.proofs.shard.Shard.close_reader.Goals as goal
@@ -40,3 +41,14 @@ returns-in-None-clause-counts c = counts-itself c.args.self.now
 
 pub returns-in-Some-clause-counts : goal.returns-in-Some-clause-counts
 returns-in-Some-clause-counts c = record { answered = refl; segments = refl; asked = refl; none_fell = c.release_both.ensures.room.counts }
+
+pub returns-in-None-clause-left : goal.returns-in-None-clause-left
+returns-in-None-clause-left c = record { cache = refl; left = leaves-itself c.args.self.now.unstored.chains }
+
+pub returns-in-Some-clause-left : goal.returns-in-Some-clause-left
+returns-in-Some-clause-left c =
+    let s = c.requires in
+    let at = place-of c.args.id c.args.self.now.readers.items c.in-Some.at (subst (λ (os : List (ℕ × Opened)). position (λ reader. reader.0 == c.args.id) os ≡ Some c.in-Some.at) c.as_slice.ensures.value (sym c.in-Some.ensures)) in
+    let f = found-at _ s.0 c.args.self.now s.1 c.args.id c.in-Some.at c.remove-id.result s.2 at (sym c.remove-id.ensures.value) in
+    let r = c.release_both.ensures.released in
+    record { cache = refl; left = (c.what_calls_leave_of_the_cache.ensures.back c.args.self.now.unstored.chains r.0 c.release_both.new.self.chains c.into_snaps.result (subst (AreThere c.args.self.now.unstored.chains) (sym c.into_snaps.ensures) f.there) (subst AreOfTwo (sym c.into_snaps.ensures) f.chains) r.1 r.2).left }

@@ -4,6 +4,9 @@ use Rattle.std.specs.Prelude.{IsTrue}
 use Rattle.rc_schema.specs.SchemaValue.{SchemaValue, is_schema}
 use Rattle.rc_lookup.specs.Writes.{AreSmall}
 use Rattle.rc_shard.proofs.Filled.{cached-filled, one-fits, same-source}
+use Rattle.rc_lookup.specs.Memtables.{in_chains}
+use Rattle.rc_shard.specs.declared.shard.Shard.{Shard}
+use Rattle.rc_shard.proofs.Known.{filled-known}
 use Rattle.rc_shard.proofs.Looking.{on-ok, over-of, used-for}
 use Rattle.rc_shard.proofs.shard.Shard.fill.Goals as goal
 
@@ -47,3 +50,9 @@ returns-in-Ok-clause-beside c = record { rest = c.populate.ensures.rest; keys = 
 
 pub returns-in-Err-clause-beside : goal.returns-in-Err-clause-beside
 returns-in-Err-clause-beside c = record { rest = c.populate.ensures.rest; keys = record { sealed = refl; active = refl }; folder = refl; readers = refl; answered = refl; segments = refl; asked = refl }
+
+pub returns-in-Ok-clause-stays : goal.returns-in-Ok-clause-stays
+returns-in-Ok-clause-stays c =
+    let k = c.args.self.now in
+    let new : Shard = record k { cache = c.populate.new.cache; unstored = in_chains c.populate.new.chains k.unstored } in
+    on-ok c.stream_read.result _ (filled-known k new c.args.key.now c.requires.stands.2.cached.are c.known.ensures.told (λ none. c.in-Ok.ensures.known none) (λ none q ne. c.in-Ok.ensures.stays none q ne))

@@ -3,6 +3,10 @@ use Rattle.std.proofs.Common.{refl, ap, subst}
 use Rattle.rc_machine.specs.State.{State}
 use Rattle.rc_machine.specs.Steps.{sealing}
 use Rattle.rc_shard.specs.declared.shard.Shard.{Shard}
+use Rattle.rc_lines.specs.declared.commands.Command.TheVariants.{Flush}
+use Rattle.rc_shard.specs.Knowing.{StaysKnown}
+use Rattle.rc_shard.specs.calls.Caching.{HasCache}
+use Rattle.rc_shard.proofs.Known.{flush-known, on-answered, sealed-other}
 use Rattle.rc_shard.proofs.Flushing.{not-true, sealed-for, stops-sealed, takes-no-flush, takes-written}
 use Rattle.rc_shard.proofs.Standing.{if-ok-weaker, on-err-weaker}
 use Rattle.rc_shard.proofs.shard.Shard.flush.Goals as goal
@@ -49,3 +53,26 @@ pub returns-in-Some-clause-counts : goal.returns-in-Some-clause-counts
 returns-in-Some-clause-counts g c =
     let n = c.write_sealed.ensures.counts in
     record { answered = n.answered; segments = n.segments; asked = n.asked; none_fell = subst (λ (m : Memory). NoCountFell m c.write_sealed.new.self.unstored.chains) c.seal.ensures.chains n.none_fell }
+
+-- ---- what is known still
+
+pub returns-then-is_empty-clause-stays : goal.returns-then-is_empty-clause-stays
+returns-then-is_empty-clause-stays g c = λ none key un whole. whole
+
+pub returns-in-None-clause-stays : goal.returns-in-None-clause-stays
+returns-in-None-clause-stays g c = λ none key un whole. whole
+
+pub returns-in-Some-clause-stays : goal.returns-in-Some-clause-stays
+returns-in-Some-clause-stays g c =
+    let files = g.W.Store.files c.args.store.now in
+    let k = c.args.self.now in
+    let sealed : Shard = record k { unstored = c.seal.new.self } in
+    let m : State = c.requires.0 in
+    let s = c.requires.1 in
+    let t = sealed-for _ files k sealed m refl refl refl refl c.seal.ensures.chains c.seal.ensures.sealed c.seal.ensures.kept s in
+    let has : HasCache k.cache.entries k.unstored.chains = record { are = s.cached.are; one = s.cached.one; used = s.cached.used; untaken = s.cached.untaken } in
+    on-answered _ (StaysKnown Flush k c.write_sealed.new.self) c.write_sealed.result
+    (λ reply written. flush-known files (g.W.Store.files c.write_sealed.new.store) c.in-Some.number k sealed c.write_sealed.new.self reply has c.known.ensures.told refl c.seal.ensures.chains
+    (λ i key un. sealed-other k.folder.schema k.unstored c.seal.new.self s.have.sealed s.have.later t.have.sealed t.have.later i.parts key un.sealed un.active s.have.have
+    (λ others h. c.seal.ensures.swapped k.folder.schema others h) (λ w ws others h. c.seal.ensures.kept k.folder.schema w ws others h) t.have.have (i.of_writes k.folder.schema t.have.sealed t.have.later t.have.have)) written)
+    c.write_sealed.ensures.written

@@ -4,7 +4,7 @@ use Rattle.rc_lookup.specs.Found.{entry_number}
 use Rattle.rc_opened.specs.declared.opened.Opened.{Opened}
 use Rattle.rc_opened.specs.Opened.{snaps_of}
 use Rattle.rc_shard.specs.declared.shard.Shard.{Shard}
-use Rattle.rc_shard.proofs.Looking.{known-pinned}
+use Rattle.rc_shard.proofs.Looking.{known-pinned, same-recency}
 use Rattle.rc_shard.proofs.Opening.{opens-reader}
 use Rattle.rc_shard.proofs.Standing.{on-err}
 use Rattle.rc_shard.proofs.Taking.{keeps-kept}
@@ -41,7 +41,13 @@ returns-clause-pins c =
     (x, items, c.in_ok-opened.ensures.pins)
 
 pub returns-clause-whole : goal.returns-clause-whole
-returns-clause-whole c = λ whole.
+returns-clause-whole c = λ q whole.
     let took = c.in_ok-opened.ensures.pins.exact in
     let snaps = snaps_of c.in_ok-opened.opened in
-    known-pinned (entry_number c.args.self.now.cache.entries c.args.key.now) c.args.self.now.unstored.chains took.0 c.open_in.new.unstored.chains snaps.sealed snaps.active took.1 took.2 whole
+    known-pinned (entry_number c.args.self.now.cache.entries q) c.args.self.now.unstored.chains took.0 c.open_in.new.unstored.chains snaps.sealed snaps.active took.1 took.2 whole
+
+pub returns-clause-recency : goal.returns-clause-recency
+returns-clause-recency c =
+    let took = c.in_ok-opened.ensures.pins.exact in
+    let snaps = snaps_of c.in_ok-opened.opened in
+    (refl, same-recency took.0 c.open_in.new.unstored.chains snaps.active took.2 ∙ same-recency c.args.self.now.unstored.chains took.0 snaps.sealed took.1)

@@ -1,12 +1,15 @@
 -- A reader is opened, where its id is not open and fewer are than may be, and what the tables say is known or can be read.
 use Rattle.std.proofs.Common.{◌≡◌, ◌==◌, ◌<◌, ◌≤◌, ℕ, List, None, length, position, sym, ap, subst, arith}
+use Rattle.rc_stream.specs.Stream.{Stream}
 use Rattle.rc_opened.specs.declared.opened.Opened.{Opened}
 use Rattle.rc_machine.specs.Steps.{most_readers}
 use Rattle.rc_shard.proofs.Counted.{counts-itself}
 use Rattle.rc_shard.proofs.Looking.{counts-behind, counts-used, lost-within, no-count}
-use Rattle.rc_shard.proofs.Pinned.{filled-opened, filled-unread, told-opened, told-unread}
+use Rattle.rc_shard.specs.calls.Looking.{AreKnownStill, UnlessMemory}
+use Rattle.rc_shard.proofs.Known.{on-opened, on-unread}
+use Rattle.rc_shard.proofs.Pinned.{filled-opened, filled-unread, recent-opened, recent-unread, told-opened, told-unread}
 use Rattle.rc_shard.proofs.Places.{nowhere-of, open-none, open-some}
-use Rattle.rc_shard.proofs.Standing.{on-err, on-err-weaker}
+use Rattle.rc_shard.proofs.Standing.{if-ok-weaker, on-err, on-err-weaker}
 use Rattle.rc_shard.proofs.Taking.{opened-of, takes-in-use, takes-too-many, unread-faults, unread-of}
 use Rattle.rc_shard.proofs.shard.Shard.open_read.Goals as goal
 
@@ -95,8 +98,34 @@ returns-in-Ok-clause-filled g c =
     let old = c.args.self.now.unstored.chains in
     let mid = c.tables_of.new.self.unstored.chains in
     let new = c.open_over.new.self.unstored.chains in
-    filled-opened c.args.id c.args.key.now c.args.slice.now c.args.self.now c.tables_of.new.self c.open_over.new.self c.open_over.result c.open_over.ensures.fine c.open_over.ensures.whole
+    filled-opened c.args.id c.args.key.now c.args.slice.now c.args.self.now c.tables_of.new.self c.open_over.new.self c.open_over.result c.open_over.ensures.fine (if-ok-weaker c.open_over.result _ _ (λ _ h. h c.args.key.now) c.open_over.ensures.whole)
     (λ none. c.in-Ok.ensures.whole (lost-within old old mid new (no-count old) c.tables_of.ensures.beside.rest.counts c.open_over.ensures.counts.none_fell none))
 
 pub returns-in-Err-clause-filled : goal.returns-in-Err-clause-filled
 returns-in-Err-clause-filled g c = filled-unread c.args.id c.args.key.now c.args.slice.now c.args.self.now c.tables_of.new.self c.in-Err.error c.not_read.result c.not_read.ensures
+
+-- ---- what is known still, and what is recent
+
+pub returns-then-is_some-clause-stays : goal.returns-then-is_some-clause-stays
+returns-then-is_some-clause-stays g c = λ none q whole. whole
+
+pub returns-then-len-ge-MOST_READERS-clause-stays : goal.returns-then-len-ge-MOST_READERS-clause-stays
+returns-then-len-ge-MOST_READERS-clause-stays g c = λ none q whole. whole
+
+pub returns-in-Ok-clause-stays : goal.returns-in-Ok-clause-stays
+returns-in-Ok-clause-stays g c =
+    let old = c.args.self.now.unstored.chains in
+    let mid = c.tables_of.new.self.unstored.chains in
+    let new = c.open_over.new.self.unstored.chains in
+    on-opened c.args.self.now c.tables_of.new.self c.open_over.new.self c.open_over.result (lost-within old old mid new (no-count old) c.tables_of.ensures.beside.rest.counts c.open_over.ensures.counts.none_fell)
+    (subst (λ r. UnlessMemory r (AreKnownStill c.args.self.now c.tables_of.new.self)) c.in-Ok.is c.tables_of.ensures.stays) c.open_over.ensures.whole
+
+pub returns-in-Err-clause-stays : goal.returns-in-Err-clause-stays
+returns-in-Err-clause-stays g c =
+    on-unread Stream c.in-Err.error c.not_read.result (AreKnownStill c.args.self.now c.tables_of.new.self) (subst (λ r. UnlessMemory r (AreKnownStill c.args.self.now c.tables_of.new.self)) c.in-Err.is c.tables_of.ensures.stays) c.not_read.ensures
+
+pub returns-in-Ok-clause-recent : goal.returns-in-Ok-clause-recent
+returns-in-Ok-clause-recent g c = recent-opened c.args.id c.args.key.now c.args.slice.now c.args.self.now c.tables_of.new.self c.open_over.new.self c.open_over.result c.open_over.ensures.fine c.open_over.ensures.recency (λ whole. c.in-Ok.ensures.hit whole)
+
+pub returns-in-Err-clause-recent : goal.returns-in-Err-clause-recent
+returns-in-Err-clause-recent g c = recent-unread c.args.id c.args.key.now c.args.slice.now c.args.self.now c.tables_of.new.self c.in-Err.error c.not_read.result c.not_read.ensures

@@ -38,3 +38,12 @@ returns-then-branch-clause-counts c = record { answered = refl; segments = refl;
 
 pub returns-else-branch-clause-counts : goal.returns-else-branch-clause-counts
 returns-else-branch-clause-counts c = record { answered = refl; segments = refl; asked = refl; none_fell = (c.in_ok-put_in.ensures.kept c.if-branch.false).room.counts }
+
+pub returns-in_err-put_in-clause-left : goal.returns-in_err-put_in-clause-left
+returns-in_err-put_in-clause-left c = record { cache = refl; left = c.in_err-put_in.ensures.err.cache.left }
+
+pub returns-then-branch-clause-left : goal.returns-then-branch-clause-left
+returns-then-branch-clause-left c = record { cache = refl; left = (c.in_ok-put_in.ensures.put c.if-branch.true).cache }
+
+pub returns-else-branch-clause-left : goal.returns-else-branch-clause-left
+returns-else-branch-clause-left c = record { cache = refl; left = (c.in_ok-put_in.ensures.kept c.if-branch.false).cache.left }

@@ -6,6 +6,8 @@ use Rattle.rc_memory.specs.Memory.{Memory}
 use Rattle.rc_lookup.specs.Memtables.{in_chains}
 use Rattle.rc_opened.specs.declared.opened.Opened.{Opened}
 use Rattle.rc_shard.specs.declared.shard.Shard.{Shard}
+use Rattle.rc_shard.specs.calls.Caching.{LeavesCache}
+use Rattle.rc_shard.proofs.Caching.{leaves-itself}
 use Rattle.rc_shard.proofs.Places.{nowhere-of, place-of}
 use Rattle.rc_shard.proofs.Standing.{on-err}
 use Rattle.rc_shard.proofs.Taking.{found-at, keeps-read, no-more-same, takes-no-read, takes-read}
@@ -50,3 +52,12 @@ returns-in_ok-lines-in-Some-clause-counts c = record { answered = refl; segments
 
 pub returns-in-None-clause-counts : goal.returns-in-None-clause-counts
 returns-in-None-clause-counts c = counts-itself c.args.self.now
+
+pub returns-in-None-clause-left : goal.returns-in-None-clause-left
+returns-in-None-clause-left c = record { cache = refl; left = leaves-itself c.args.self.now.unstored.chains }
+
+pub returns-in_err-lines-in-Some-clause-left : goal.returns-in_err-lines-in-Some-clause-left
+returns-in_err-lines-in-Some-clause-left c = record { cache = refl; left = subst (LeavesCache c.args.self.now.unstored.chains) (sym c.read.ensures.chains) (leaves-itself c.args.self.now.unstored.chains) }
+
+pub returns-in_ok-lines-in-Some-clause-left : goal.returns-in_ok-lines-in-Some-clause-left
+returns-in_ok-lines-in-Some-clause-left c = record { cache = refl; left = subst (LeavesCache c.args.self.now.unstored.chains) (sym c.read.ensures.chains) (leaves-itself c.args.self.now.unstored.chains) }

@@ -4,6 +4,9 @@ use Rattle.rc_mutation.specs.Fragments.{fragments}
 use Rattle.rc_mutation.specs.declared.mutations.Mutation.{Mutation}
 use Rattle.rc_stream.specs.Stream.{Stream, stream_of}
 use Rattle.rc_shard.proofs.Filled.{cause-of, no-damage, read-cause, read-fits}
+use Rattle.std.specs.Prelude.{Err}
+use Rattle.rc_shard.specs.calls.Looking.{AreKnownStill}
+use Rattle.rc_shard.proofs.Known.{unless-all, unless-ok}
 use Rattle.rc_shard.proofs.Looking.{used-itself}
 use Rattle.rc_shard.proofs.Standing.{if-ok-weaker}
 use Rattle.rc_shard.proofs.shard.Shard.read_tables.Goals as goal
@@ -49,3 +52,9 @@ returns-in-Ok-clause-cause g c = read-cause c.fill.result (g.W.Store.files c.arg
 
 pub returns-in-Err-clause-cause : goal.returns-in-Err-clause-cause
 returns-in-Err-clause-cause g c = cause-of Mutation Stream c.in-Err.error (g.W.Store.files c.args.store.now) (g.W.Store.faults c.args.store.now) (g.W.Store.faults c.read.new.store) c.in-Err.ensures.cause
+
+pub returns-in-Ok-clause-stays : goal.returns-in-Ok-clause-stays
+returns-in-Ok-clause-stays g c = unless-ok c.fill.result _ c.fill.ensures.stays c.fill.ensures.refused
+
+pub returns-in-Err-clause-stays : goal.returns-in-Err-clause-stays
+returns-in-Err-clause-stays g c = unless-all {T = Stream} (Err c.in-Err.error) (AreKnownStill c.args.self.now c.args.self.now) (λ none q whole. whole)

@@ -6,6 +6,8 @@ use Rattle.rc_shard.proofs.Taking.{keeps-files, keeps-kept}
 use Rattle.rc_shard.proofs.shard.Shard.step.Goals as goal
 use Rattle.rc_lines.specs.declared.commands.Figures.{Figures}
 use Rattle.rc_shard.proofs.Counted.{counts-itself, if-ok-all, make-budget}
+use Rattle.rc_shard.proofs.Known.{left-known}
+use Rattle.rc_shard.proofs.Looking.{on-ok, on-ok-weaker}
 
 pub returns-in-SetSchema-clause-step : goal.returns-in-SetSchema-clause-step
 returns-in-SetSchema-clause-step g c = rw (c.in-SetSchema.is) (c.set_schema.ensures.step (g.W.Store.files c.args.store.now))
@@ -41,12 +43,12 @@ pub returns-in-Compact-clause-step : goal.returns-in-Compact-clause-step
 returns-in-Compact-clause-step g c =
     let files = g.W.Store.files c.args.store.now in
     let new : Shard = record c.args.self.now { unstored = c.compact.new.unstored } in
-    let keeps = keeps-kept _ c.what_is_left_stays_where_the_snapshots_see_the_same-in-Compact.ensures c.args.self.now new refl refl refl refl (λ schema e. c.compact.ensures schema) in
+    let keeps = keeps-kept _ c.what_is_left_stays_where_the_snapshots_see_the_same-in-Compact.ensures c.args.self.now new refl refl refl refl (λ schema e. c.compact.ensures.kept schema) in
     rw (c.in-Compact.is) (λ m s. (m, (refl, refl), keeps files m s))
 
 -- what is counted
 pub returns-in-Compact-clause-counts : goal.returns-in-Compact-clause-counts
-returns-in-Compact-clause-counts g c = record { answered = refl; segments = refl; asked = refl; none_fell = (c.compact.ensures c.args.self.now.folder.schema).room.counts }
+returns-in-Compact-clause-counts g c = record { answered = refl; segments = refl; asked = refl; none_fell = (c.compact.ensures.kept c.args.self.now.folder.schema).room.counts }
 
 pub returns-in-Nothing-clause-counts : goal.returns-in-Nothing-clause-counts
 returns-in-Nothing-clause-counts g c = counts-itself c.args.self.now
@@ -136,3 +138,67 @@ returns-in-Read-clause-evicts g c = rw (c.in-Read.is) tt
 
 pub returns-in-Flush-clause-evicts : goal.returns-in-Flush-clause-evicts
 returns-in-Flush-clause-evicts g c = rw (c.in-Flush.is) tt
+
+-- which segments are emptied
+pub returns-in-Compact-clause-compacts : goal.returns-in-Compact-clause-compacts
+returns-in-Compact-clause-compacts g c = rw (c.in-Compact.is) c.compact.ensures.emptied
+
+pub returns-in-Put-clause-compacts : goal.returns-in-Put-clause-compacts
+returns-in-Put-clause-compacts g c = rw (c.in-Put.is) tt
+
+pub returns-in-OpenRead-clause-compacts : goal.returns-in-OpenRead-clause-compacts
+returns-in-OpenRead-clause-compacts g c = rw (c.in-OpenRead.is) tt
+
+pub returns-in-Read-clause-compacts : goal.returns-in-Read-clause-compacts
+returns-in-Read-clause-compacts g c = rw (c.in-Read.is) tt
+
+pub returns-in-Flush-clause-compacts : goal.returns-in-Flush-clause-compacts
+returns-in-Flush-clause-compacts g c = rw (c.in-Flush.is) tt
+
+-- which objects are the most recent ones
+pub returns-in-OpenRead-clause-recent : goal.returns-in-OpenRead-clause-recent
+returns-in-OpenRead-clause-recent g c = rw (c.in-OpenRead.is) c.open_read.ensures.recent
+
+pub returns-in-Put-clause-recent : goal.returns-in-Put-clause-recent
+returns-in-Put-clause-recent g c = rw (c.in-Put.is) (if-ok-all c.put.result _ (λ reply. tt))
+
+pub returns-in-Read-clause-recent : goal.returns-in-Read-clause-recent
+returns-in-Read-clause-recent g c = rw (c.in-Read.is) (if-ok-all c.read.result _ (λ reply. tt))
+
+pub returns-in-Flush-clause-recent : goal.returns-in-Flush-clause-recent
+returns-in-Flush-clause-recent g c = rw (c.in-Flush.is) (if-ok-all c.flush.result _ (λ reply. tt))
+
+-- what is known still
+pub returns-in-Nothing-clause-stays : goal.returns-in-Nothing-clause-stays
+returns-in-Nothing-clause-stays g c = λ none key spared whole. whole
+
+pub returns-in-SetSchema-clause-stays : goal.returns-in-SetSchema-clause-stays
+returns-in-SetSchema-clause-stays g c = λ none key spared whole. whole
+
+pub returns-in-Stats-clause-stays : goal.returns-in-Stats-clause-stays
+returns-in-Stats-clause-stays g c = λ none key spared whole. whole
+
+pub returns-in-Put-clause-stays : goal.returns-in-Put-clause-stays
+returns-in-Put-clause-stays g c = on-ok c.put.result _ (λ none key spared whole. left-known c.args.self.now c.put.new.self c.requires.stands.1.cached.are c.known.ensures.told c.put.ensures.left none key whole)
+
+pub returns-in-Read-clause-stays : goal.returns-in-Read-clause-stays
+returns-in-Read-clause-stays g c = on-ok c.read.result _ (λ none key spared whole. left-known c.args.self.now c.read.new.self c.requires.stands.1.cached.are c.known.ensures.told c.read.ensures.left none key whole)
+
+pub returns-in-Close-clause-stays : goal.returns-in-Close-clause-stays
+returns-in-Close-clause-stays g c = λ none key spared whole. left-known c.args.self.now c.close_reader.new.self c.requires.stands.1.cached.are c.known.ensures.told c.close_reader.ensures.left none key whole
+
+pub returns-in-OpenRead-clause-stays : goal.returns-in-OpenRead-clause-stays
+returns-in-OpenRead-clause-stays g c = on-ok-weaker c.open_read.result _ _ (λ h none key spared whole. h none key whole) c.open_read.ensures.stays
+
+pub returns-in-Flush-clause-stays : goal.returns-in-Flush-clause-stays
+returns-in-Flush-clause-stays g c = rw (c.in-Flush.is) c.flush.ensures.stays
+
+pub returns-in-Evict-clause-stays : goal.returns-in-Evict-clause-stays
+returns-in-Evict-clause-stays g c = λ none key spared whole.
+    let new : Shard = record c.args.self.now { unstored = c.evict.new.unstored } in
+    left-known c.args.self.now new c.requires.stands.1.cached.are c.known.ensures.told (record { cache = refl; left = (c.evict.ensures.kept c.args.self.now.folder.schema).cache.left }) none key whole
+
+pub returns-in-Compact-clause-stays : goal.returns-in-Compact-clause-stays
+returns-in-Compact-clause-stays g c = λ none key spared whole.
+    let new : Shard = record c.args.self.now { unstored = c.compact.new.unstored } in
+    left-known c.args.self.now new c.requires.stands.1.cached.are c.known.ensures.told (record { cache = refl; left = (c.compact.ensures.kept c.args.self.now.folder.schema).cache.left }) none key whole
