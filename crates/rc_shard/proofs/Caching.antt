@@ -204,6 +204,18 @@ module _ (s : Snap) (old mid : Memory) (h : HasSnap old s) (r : IsReleased s old
         | inr kept ↦ ap (λ (m : Memory). chain_at m i) kept.1 ∙ back-beside i ne
       ])
 
+  -- and the counts
+  pub counts-back : mid.counts ≡ old.counts
+  counts-back =
+      let k = some-chain (λ q. IsSome (pin_at q.chain.pins s.pin)) (chain_at old s.chain) h.pin in
+      let here : chain_at (taken_back s old) s.chain ≡ Some (without_snapshot s.pin k.0) = chain-here old (taken_back s old) s.chain (option_map (without_snapshot s.pin) (chain_at old s.chain)) refl ∙ ap (option_map (without_snapshot s.pin)) k.1 in
+      either (mid.counts ≡ old.counts) k.0.chain.attached
+      (λ found. ap (λ (m : Memory). m.counts) (r.found k.0 k.1 found))
+      (λ gone. elim (r.freed k.0 k.1 gone (without_snapshot s.pin k.0) here) [
+        | inl free ↦ free.1.counts
+        | inr kept ↦ ap (λ (m : Memory). m.counts) kept.1
+      ])
+
   pub still-there : (t : Snap) → HasSnap old t → (s.chain ≡ t.chain → ⊥) → HasSnap mid t
   still-there t on apart =
       let same = released-beside t.chain (λ e. apart (sym e)) in
@@ -214,6 +226,10 @@ module _ (P : Memory → Memory → Type 0) (itself : (m : Memory) → P m m) (s
   pub back-if : (o : Option Snap) (old new : Memory) → IfSome o (HasSnap old) → IsReleasedIf o old new → P old new
   back-if None old new h same = subst (P old) (sym same) (itself old)
   back-if (Some s) old new h r = step s old new h r
+
+pub counts-back-if : (o : Option Snap) (old new : Memory) → IfSome o (HasSnap old) → IsReleasedIf o old new → new.counts ≡ old.counts
+counts-back-if None old new h same = ap (λ (m : Memory). m.counts) same
+counts-back-if (Some s) old new h r = counts-back s old new h r
 
 pub there-behind : (o p : Option Snap) (old mid : Memory) → IfSome o (HasSnap old) → IfSome p (HasSnap old) → IfSome o (λ s. IfSome p (λ t. s.chain ≡ t.chain → ⊥)) → IsReleasedIf o old mid → IfSome p (HasSnap mid)
 there-behind None p old mid h on apart same = subst (λ (m : Memory). IfSome p (HasSnap m)) (sym same) on

@@ -2,7 +2,8 @@
 use Rattle.std.proofs.Common.{◌≡◌, ◌≤◌, ◌+◌, ◌-◌, ℕ, List, [], ◌∷◌, ◌++◌, length, length-append, refl, ap, ◌∙◌, arith}
 use Rattle.std.specs.Prelude.{min}
 use Rattle.rc_memory.specs.Memory.{IsUntouched, Member, Memory}
-use Rattle.rc_lookup.specs.Evictions.{AreEvicted}
+use Rattle.rc_memory.specs.declared.counts.Counts.{Counts}
+use Rattle.rc_lookup.specs.Evictions.{AreEvicted, evictions_counted, one_eviction_more}
 use Rattle.rc_shard.specs.Evicting.{AreFirstEvicted}
 
 -- of so many that were asked for these are left
@@ -43,3 +44,11 @@ all-went count left old new zero u = (u.0, u.1, u.2, all-sum (length u.0) (lengt
 -- where none is left
 pub none-left : (count left : ℕ) (old new : Memory) → new.recency ≡ [] → IsUnderway count left old new → AreFirstEvicted count old new
 none-left count left old new none u = (u.0, u.1, u.2, end-sum (length u.0) left count (length old.recency) u.3 (listed-sum u.0 new.recency old.recency u.2.recency ∙ ap (λ (l : List Member). length u.0 + length l) none))
+
+-- evictions skip no fill
+skipped-counted : (went : List Member) (c : Counts) → (evictions_counted went c).skipped ≡ c.skipped
+skipped-counted [] c = refl
+skipped-counted (w ∷ ws) c = skipped-counted ws (one_eviction_more c)
+
+pub none-skipped : (count : ℕ) (old new : Memory) → AreFirstEvicted count old new → new.counts.skipped ≡ old.counts.skipped
+none-skipped count old new (went, gone, evicted, long) = ap (λ (c : Counts). c.skipped) evicted.counts ∙ skipped-counted went old.counts

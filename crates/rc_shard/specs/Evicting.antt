@@ -1,9 +1,10 @@
 -- What the row cache gives up where it is told to.
 --     AreFirstEvicted    the first objects of the recency list went
 --     IsEvictedAsTold    so the shard does where an eviction is answered
+--     IsLostAsTold       by which commands nothing is lost
 use Rattle.std.specs.Prelude.{◌≡◌, ⊤, ℕ, List, length, min}
 use Rattle.rc_lines.specs.declared.commands.Command.{Command}
-use Rattle.rc_lines.specs.declared.commands.Command.TheVariants.{Evict}
+use Rattle.rc_lines.specs.declared.commands.Command.TheVariants.{Close, Compact, Evict, Put, Read, Stats}
 use Rattle.rc_memory.specs.Memory.{Member, Memory}
 use Rattle.rc_lookup.specs.Evictions.{AreEvicted}
 
@@ -15,3 +16,13 @@ AreFirstEvicted count old new = (went : List Member) × (gone : List ℕ) × Are
 abbrev pub IsEvictedAsTold : Command → Memory → Memory → Type 0
 IsEvictedAsTold (Evict count) old new = AreFirstEvicted count old new
 IsEvictedAsTold command old new = ⊤
+
+-- A read, a closing, a compaction and figures evict nothing; these, a write and an eviction that is told skip no fill.
+abbrev pub IsLostAsTold : Command → Memory → Memory → Type 0
+IsLostAsTold (Put w) old new = new.counts.skipped ≡ old.counts.skipped
+IsLostAsTold (Evict count) old new = new.counts.skipped ≡ old.counts.skipped
+IsLostAsTold (Read id count) old new = (new.counts.evicted ≡ old.counts.evicted) × (new.counts.skipped ≡ old.counts.skipped)
+IsLostAsTold (Close id) old new = (new.counts.evicted ≡ old.counts.evicted) × (new.counts.skipped ≡ old.counts.skipped)
+IsLostAsTold (Compact count) old new = (new.counts.evicted ≡ old.counts.evicted) × (new.counts.skipped ≡ old.counts.skipped)
+IsLostAsTold Stats old new = (new.counts.evicted ≡ old.counts.evicted) × (new.counts.skipped ≡ old.counts.skipped)
+IsLostAsTold command old new = ⊤

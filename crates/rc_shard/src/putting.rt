@@ -1,5 +1,5 @@
 //! A write is put behind the later ones.
-ghost use Rattle.std.specs.Prelude.{◌≡◌, List as Sequence, IfOk, OnErr, true, false};
+ghost use Rattle.std.specs.Prelude.{◌≡◌, List as Sequence, IfOk, OnErr, OnOk, true, false};
 ghost use Rattle.rc_schema.specs.SchemaValue.{SchemaValue};
 ghost use Rattle.rc_writes.specs.Allowed.{ChangeFits};
 ghost use Rattle.rc_writes.specs.Single.{IsSingle};
@@ -31,6 +31,7 @@ pub(crate) fn put_in(
     ensures kept { IfOk result (λ done. done ≡ false → IsKept schema.now unstored.old unstored.new) }
     ensures none { IfOk result (λ done. done ≡ false → IsFullFor 131072 schema.now w.now unstored.new) }
     ensures full { IfOk result (λ done. done ≡ false → IsFull unstored.new.chains) }
+    ensures skips { OnOk result (unstored.new.chains.counts.skipped ≡ unstored.old.chains.counts.skipped) }
     ensures err { OnErr result (IsKept schema.now unstored.old unstored.new) }
 {
     what_a_call_leaves_of_the_room();

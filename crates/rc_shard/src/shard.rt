@@ -34,7 +34,7 @@ ghost use Rattle.rc_folder.specs.Opening.{IsOpeningRefused, OnOpenFault};
 ghost use Rattle.rc_folder.specs.Tabled.{IsNextNumber};
 ghost use Rattle.rc_shard.specs.Counting.{figures_of};
 ghost use Rattle.rc_shard.specs.Compacting.{IsCompactedAsTold};
-ghost use Rattle.rc_shard.specs.Evicting.{IsEvictedAsTold};
+ghost use Rattle.rc_shard.specs.Evicting.{IsEvictedAsTold, IsLostAsTold};
 ghost use Rattle.rc_shard.specs.Knowing.{AsksNothingWhereKnown, IsCachedWhole, IsKnownOnceOpened, IsPartitionRecent, IsRecentOnceHit, StaysKnown};
 ghost use Rattle.rc_shard.specs.Opening.{IsOnePinned, IsOpenedAsTold, PinsPartition};
 ghost use Rattle.rc_shard.specs.Stands.{AreOfTwo, AreTwo, IsFullAsTold, holding};
@@ -163,6 +163,7 @@ impl Machine for Shard {
         ensures stays { OnOk result (StaysKnown command.now self.old self.new) }
         ensures evicts { IsEvictedAsTold command.now self.old.unstored.chains self.new.unstored.chains }
         ensures compacts { IsCompactedAsTold command.now self.old.unstored.chains self.new.unstored.chains }
+        ensures loses { OnOk result (IsLostAsTold command.now self.old.unstored.chains self.new.unstored.chains) }
         ensures figures { IfOk result (λ reply. AreCounted command.now reply (W.asks store.old) (W.asks store.new) (figures_of self.old) (figures_of self.new)) }
     {
         let before = store.asks();
@@ -237,6 +238,7 @@ impl Shard {
         ensures stays { OnOk result (StaysKnown command.now self.old self.new) }
         ensures evicts { IsEvictedAsTold command.now self.old.unstored.chains self.new.unstored.chains }
         ensures compacts { IsCompactedAsTold command.now self.old.unstored.chains self.new.unstored.chains }
+        ensures loses { OnOk result (IsLostAsTold command.now self.old.unstored.chains self.new.unstored.chains) }
         ensures counts { CountsStay self.old self.new }
         ensures told { IfOk result (λ reply. IfSome (figures_in command.now reply) (λ figures. figures ≡ figures_of self.old (W.asks store.old))) }
     {
@@ -285,6 +287,7 @@ impl Shard {
         ensures step { (files : Option Files) → IfOk result (λ reply. Takes ⟦<Shard as Machine>⟧.stands files self.old (Command.Put write.now) reply files self.new) }
         ensures faultless { (n : ℕ) → IfOk result (λ reply. OnFaulty reply (Rose n n)) }
         ensures full { IfOk result (λ reply. IsFullAsTold (Command.Put write.now) reply self.old.folder.schema self.new.unstored) }
+        ensures skips { OnOk result (self.new.unstored.chains.counts.skipped ≡ self.old.unstored.chains.counts.skipped) }
         ensures left { IsCacheLeft self.old self.new }
         ensures err { OnErr result (Keeps ⟦<Shard as Machine>⟧.stands self.old self.new) }
         ensures counts { CountsStay self.old self.new }
@@ -480,6 +483,7 @@ impl Shard {
     fn read(&mut self, alloc: Global, id: u32, count: u32) -> Result<Reply, AllocError>
         requires { (files : Option Files) × (m : State) × ⟦<Shard as Machine>⟧.stands files self.old m }
         ensures step { (files : Option Files) → IfOk result (λ reply. Takes ⟦<Shard as Machine>⟧.stands files self.old (Command.Read id count) reply files self.new) }
+        ensures same { self.new.unstored.chains.counts ≡ self.old.unstored.chains.counts }
         ensures left { IsCacheLeft self.old self.new }
         ensures faultless { (n : ℕ) → IfOk result (λ reply. OnFaulty reply (Rose n n)) }
         ensures err { OnErr result (Keeps ⟦<Shard as Machine>⟧.stands self.old self.new) }
@@ -499,6 +503,7 @@ impl Shard {
     fn close_reader(&mut self, id: u32) -> Reply
         requires { (files : Option Files) × (m : State) × ⟦<Shard as Machine>⟧.stands files self.old m }
         ensures step { (files : Option Files) → Takes ⟦<Shard as Machine>⟧.stands files self.old (Command.Close id) result files self.new }
+        ensures same { self.new.unstored.chains.counts ≡ self.old.unstored.chains.counts }
         ensures left { IsCacheLeft self.old self.new }
         ensures faultless { (n : ℕ) → OnFaulty result (Rose n n) }
         ensures counts { CountsStay self.old self.new }

@@ -1,8 +1,10 @@
 -- The write is put once room was made; else memory is full of what memtables take.
-use Rattle.std.proofs.Common.{cond, ◌++◌, ◌∷◌, [], subst}
+use Rattle.std.proofs.Common.{◌≡◌, cond, ◌++◌, ◌∷◌, [], ap, ◌∙◌, subst}
+use Rattle.rc_memory.specs.declared.counts.Counts.{Counts}
 use Rattle.rc_lookup.specs.Memtables.{HaveWrites}
 use Rattle.rc_shard.specs.calls.Storing.{IsKept}
 use Rattle.rc_shard.proofs.Caching.{keeps-then}
+use Rattle.rc_shard.proofs.Numbered.{either}
 use Rattle.rc_shard.proofs.Standing.{on-err}
 use Rattle.rc_shard.proofs.putting.put_in.Goals as goal
 
@@ -57,3 +59,11 @@ returns-in_err-done-clause-err c =
       cache = keeps-then u.chains r.mid v.chains (c.what_calls_leave_of_the_cache.ensures.made 131072 u.chains r.mid c.known.ensures.told r.room) (c.what_calls_leave_of_the_cache.ensures.slots r.mid v.chains r.slots);
     } in
     on-err c.from_residual.result _ kept
+
+pub returns-clause-skips : goal.returns-clause-skips
+returns-clause-skips c =
+    let u = c.args.unstored.now in
+    let v = c.put.new.self in
+    either (v.chains.counts.skipped ≡ u.chains.counts.skipped) c.in_ok-done.done
+    (λ done. let p = c.in_ok-done.ensures.applied done in ap (λ (n : Counts). n.skipped) p.applied.others.counts ∙ p.room.skipped)
+    (λ full. (c.in_ok-done.ensures.left full).room.skipped)

@@ -1,5 +1,5 @@
 -- The reader's place is that of its id; its snapshots are taken back.
-use Rattle.std.proofs.Common.{◌≡◌, ◌==◌, ℕ, List, Some, None, position, refl, sym, subst, arith}
+use Rattle.std.proofs.Common.{◌≡◌, ◌==◌, ℕ, List, Some, None, position, refl, sym, ◌∙◌, subst, arith}
 use Rattle.rc_memory.specs.Memory.{HasPin}
 use Rattle.rc_chain.specs.declared.chains.Snap.{Snap}
 use Rattle.rc_snapshots.specs.declared.snaps.Snaps.{Snaps}
@@ -8,7 +8,7 @@ use Rattle.rc_lookup.specs.Readers.{IsNoneOf}
 use Rattle.rc_opened.specs.declared.opened.Opened.{Opened}
 use Rattle.rc_shard.specs.declared.shard.Shard.{Shard}
 use Rattle.rc_shard.specs.Stands.{AreOfTwo}
-use Rattle.rc_shard.proofs.Caching.{leaves-itself}
+use Rattle.rc_shard.proofs.Caching.{counts-back-if, leaves-itself, there-behind}
 use Rattle.rc_shard.proofs.Places.{nowhere-of, place-of}
 use Rattle.rc_shard.proofs.Taking.{found-at, takes-close, takes-no-close}
 use Rattle.rc_shard.proofs.shard.Shard.close_reader.Goals as goal
@@ -52,3 +52,19 @@ returns-in-Some-clause-left c =
     let f = found-at _ s.0 c.args.self.now s.1 c.args.id c.in-Some.at c.remove-id.result s.2 at (sym c.remove-id.ensures.value) in
     let r = c.release_both.ensures.released in
     record { cache = refl; left = (c.what_calls_leave_of_the_cache.ensures.back c.args.self.now.unstored.chains r.0 c.release_both.new.self.chains c.into_snaps.result (subst (AreThere c.args.self.now.unstored.chains) (sym c.into_snaps.ensures) f.there) (subst AreOfTwo (sym c.into_snaps.ensures) f.chains) r.1 r.2).left }
+
+pub returns-in-None-clause-same : goal.returns-in-None-clause-same
+returns-in-None-clause-same c = refl
+
+pub returns-in-Some-clause-same : goal.returns-in-Some-clause-same
+returns-in-Some-clause-same c =
+    let s = c.requires in
+    let at = place-of c.args.id c.args.self.now.readers.items c.in-Some.at (subst (λ (os : List (ℕ × Opened)). position (λ reader. reader.0 == c.args.id) os ≡ Some c.in-Some.at) c.as_slice.ensures.value (sym c.in-Some.ensures)) in
+    let f = found-at _ s.0 c.args.self.now s.1 c.args.id c.in-Some.at c.remove-id.result s.2 at (sym c.remove-id.ensures.value) in
+    let snaps = c.into_snaps.result in
+    let there = subst (AreThere c.args.self.now.unstored.chains) (sym c.into_snaps.ensures) f.there in
+    let two = subst AreOfTwo (sym c.into_snaps.ensures) f.chains in
+    let old = c.args.self.now.unstored.chains in
+    let r = c.release_both.ensures.released in
+    let new = c.release_both.new.self.chains in
+    counts-back-if snaps.active r.0 new (there-behind snaps.sealed snaps.active old r.0 there.sealed there.active two r.1) r.2 ∙ counts-back-if snaps.sealed old r.0 there.sealed r.1

@@ -47,3 +47,9 @@ returns-then-branch-clause-left c = record { cache = refl; left = (c.in_ok-put_i
 
 pub returns-else-branch-clause-left : goal.returns-else-branch-clause-left
 returns-else-branch-clause-left c = record { cache = refl; left = (c.in_ok-put_in.ensures.kept c.if-branch.false).cache.left }
+
+pub returns-then-branch-clause-skips : goal.returns-then-branch-clause-skips
+returns-then-branch-clause-skips c = c.in_ok-put_in.ensures.skips
+
+pub returns-else-branch-clause-skips : goal.returns-else-branch-clause-skips
+returns-else-branch-clause-skips c = c.in_ok-put_in.ensures.skips

@@ -61,3 +61,12 @@ returns-in_err-lines-in-Some-clause-left c = record { cache = refl; left = subst
 
 pub returns-in_ok-lines-in-Some-clause-left : goal.returns-in_ok-lines-in-Some-clause-left
 returns-in_ok-lines-in-Some-clause-left c = record { cache = refl; left = subst (LeavesCache c.args.self.now.unstored.chains) (sym c.read.ensures.chains) (leaves-itself c.args.self.now.unstored.chains) }
+
+pub returns-in-None-clause-same : goal.returns-in-None-clause-same
+returns-in-None-clause-same c = refl
+
+pub returns-in_err-lines-in-Some-clause-same : goal.returns-in_err-lines-in-Some-clause-same
+returns-in_err-lines-in-Some-clause-same c = ap (λ (m : Memory). m.counts) c.read.ensures.chains
+
+pub returns-in_ok-lines-in-Some-clause-same : goal.returns-in_ok-lines-in-Some-clause-same
+returns-in_ok-lines-in-Some-clause-same c = ap (λ (m : Memory). m.counts) c.read.ensures.chains

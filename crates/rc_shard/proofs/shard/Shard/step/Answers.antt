@@ -5,6 +5,8 @@ use Rattle.rc_shard.specs.declared.shard.Shard.{Shard}
 use Rattle.rc_shard.proofs.Taking.{keeps-files, keeps-kept}
 use Rattle.rc_shard.proofs.shard.Shard.step.Goals as goal
 use Rattle.rc_lines.specs.declared.commands.Figures.{Figures}
+use Rattle.rc_memory.specs.declared.counts.Counts.{Counts}
+use Rattle.rc_shard.proofs.Evicted.{none-skipped}
 use Rattle.rc_shard.proofs.Counted.{counts-itself, if-ok-all, make-budget}
 use Rattle.rc_shard.proofs.Known.{left-known}
 use Rattle.rc_shard.proofs.Looking.{on-ok, on-ok-weaker}
@@ -202,3 +204,25 @@ pub returns-in-Compact-clause-stays : goal.returns-in-Compact-clause-stays
 returns-in-Compact-clause-stays g c = λ none key spared whole.
     let new : Shard = record c.args.self.now { unstored = c.compact.new.unstored } in
     left-known c.args.self.now new c.requires.stands.1.cached.are c.known.ensures.told (record { cache = refl; left = (c.compact.ensures.kept c.args.self.now.folder.schema).cache.left }) none key whole
+
+-- by which commands nothing is lost
+pub returns-in-Put-clause-loses : goal.returns-in-Put-clause-loses
+returns-in-Put-clause-loses g c = rw (c.in-Put.is) c.put.ensures.skips
+
+pub returns-in-OpenRead-clause-loses : goal.returns-in-OpenRead-clause-loses
+returns-in-OpenRead-clause-loses g c = rw (c.in-OpenRead.is) (on-ok c.open_read.result _ tt)
+
+pub returns-in-Read-clause-loses : goal.returns-in-Read-clause-loses
+returns-in-Read-clause-loses g c = rw (c.in-Read.is) (on-ok c.read.result _ (ap (λ (n : Counts). n.evicted) c.read.ensures.same, ap (λ (n : Counts). n.skipped) c.read.ensures.same))
+
+pub returns-in-Close-clause-loses : goal.returns-in-Close-clause-loses
+returns-in-Close-clause-loses g c = rw (c.in-Close.is) (ap (λ (n : Counts). n.evicted) c.close_reader.ensures.same, ap (λ (n : Counts). n.skipped) c.close_reader.ensures.same)
+
+pub returns-in-Flush-clause-loses : goal.returns-in-Flush-clause-loses
+returns-in-Flush-clause-loses g c = rw (c.in-Flush.is) (on-ok c.flush.result _ tt)
+
+pub returns-in-Evict-clause-loses : goal.returns-in-Evict-clause-loses
+returns-in-Evict-clause-loses g c = rw (c.in-Evict.is) (none-skipped c.in-Evict.count c.args.self.now.unstored.chains c.evict.new.unstored.chains c.evict.ensures.evicted)
+
+pub returns-in-Compact-clause-loses : goal.returns-in-Compact-clause-loses
+returns-in-Compact-clause-loses g c = (let same = c.compact.ensures.emptied.untouched.counts in rw (c.in-Compact.is) (ap (λ (n : Counts). n.evicted) same, ap (λ (n : Counts). n.skipped) same))
