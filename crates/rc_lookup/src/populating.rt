@@ -148,13 +148,12 @@ fn fill_entry<const S: usize>(
     filled
 }
 
-// Opens the entry of a partition that has none by what was read of it, and fills that. The only error is want of memory.
+// Opens the entry of a partition that has none by what was read of it, and fills that. All chains have one phase, since no call of this crate gives one another. The only error is want of memory.
 fn enter_read<const S: usize>(
     alloc: Global,
     cache: &mut RowCache,
     chains: &mut Chains<S>,
     key: &PartKey,
-    phase: u64,
     read: &Mutation,
 ) -> Result<(), AllocError>
     requires entries { AreEntries cache.old.entries chains.old }
@@ -182,7 +181,7 @@ fn enter_read<const S: usize>(
     counts_in_range(chains);
     chains.known();
     read.holds_together();
-    match cache.enter(alloc, chains, key, phase, read) {
+    match cache.enter(alloc, chains, key, 0, read) {
         Ok(Some(snap)) => fill_entry(alloc, chains, snap, read),
         Ok(None) => Ok(()),
         Err(error) => Err(error),
@@ -195,7 +194,6 @@ pub fn populate<const S: usize>(
     cache: &mut RowCache,
     chains: &mut Chains<S>,
     key: &PartKey,
-    phase: u64,
     read: &Mutation,
 ) -> Result<(), AllocError>
     requires entries { AreEntries cache.old.entries chains.old }
@@ -210,5 +208,5 @@ pub fn populate<const S: usize>(
     ensures stays { OnOk result (NoneLost (losses chains.old) (losses chains.new) → (q : Sequence ℕ) → (q ≡ key.now → ⊥) → IsEntryStill q cache.old.entries chains.old cache.new.entries chains.new) }
 {
     forget_entry(cache, chains, key);
-    enter_read(alloc, cache, chains, key, phase, read)
+    enter_read(alloc, cache, chains, key, read)
 }

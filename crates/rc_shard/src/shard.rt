@@ -436,14 +436,7 @@ impl Shard {
         let _entry = schema.largest_entry();
         let _statics = schema.largest_static();
         self.unstored.chains.known();
-        match populate(
-            alloc,
-            &mut self.cache,
-            &mut self.unstored.chains,
-            key,
-            0,
-            read,
-        ) {
+        match populate(alloc, &mut self.cache, &mut self.unstored.chains, key, read) {
             Ok(()) => stream_read(alloc, read),
             Err(_) => Err(StreamErr::NoMemory),
         }
