@@ -20,45 +20,30 @@ pub(crate) enum Place {
     End,
 }
 
-impl Place {
-    /// The place of a fragment.
-    fn of(alloc: Global, fragment: &Frag) -> Result<Self, AllocError> {
-        Ok(match fragment {
-            Frag::Start(_) => Place::Head,
-            Frag::Static(_) => Place::Static,
-            Frag::Row(key, _) => Place::At(Pos {
-                prefix: key.copy(alloc)?,
-                weight: Weight::At,
-            }),
-            Frag::Change(from, _) => Place::At(from.copy(alloc)?),
-            Frag::End => Place::End,
-        })
-    }
+// The place of a fragment.
+fn place_of(alloc: Global, fragment: &Frag) -> Result<Place, AllocError> {
+    Ok(match fragment {
+        Frag::Start(_) => Place::Head,
+        Frag::Static(_) => Place::Static,
+        Frag::Row(key, _) => Place::At(Pos {
+            prefix: key.copy(alloc)?,
+            weight: Weight::At,
+        }),
+        Frag::Change(from, _) => Place::At(from.copy(alloc)?),
+        Frag::End => Place::End,
+    })
+}
 
-    /// Whether the head stands before the place.
-    pub(crate) fn is_past_head(&self) -> bool {
-        match self {
-            Place::Head => false,
-            Place::Static | Place::At(_) | Place::End => true,
-        }
+/// The places of fragments.
+pub(crate) fn push_places(
+    alloc: Global,
+    fragments: &[Frag],
+    places: &mut Vec<Place>,
+) -> Result<(), AllocError> {
+    for fragment in fragments {
+        places.push(place_of(alloc, fragment)?)?;
     }
-
-    /// Whether the static row stands before the place.
-    pub(crate) fn is_past_statics(&self) -> bool {
-        match self {
-            Place::Head | Place::Static => false,
-            Place::At(_) | Place::End => true,
-        }
-    }
-
-    /// Whether a position stands before the place.
-    pub(crate) fn is_past(&self, x: &Pos) -> bool {
-        match self {
-            Place::Head | Place::Static => false,
-            Place::At(place) => *x < *place,
-            Place::End => true,
-        }
-    }
+    Ok(())
 }
 
 /// An update that stands in the newest version.
@@ -66,6 +51,8 @@ impl Place {
 pub(crate) struct Update {
     /// The fragments of what it writes.
     pub(crate) fragments: FragList,
+    /// Their places.
+    pub(crate) places: Vec<Place>,
     /// The number of the next one.
     pub(crate) next: usize,
     /// The range tombstone in force before the next one, as the fragments have it.
@@ -73,17 +60,9 @@ pub(crate) struct Update {
 }
 
 impl Update {
-    /// The place of the fragment of a number: the end behind the last fragment.
-    pub(crate) fn place_of(&self, alloc: Global, number: usize) -> Result<Place, AllocError> {
-        match self.fragments.as_slice().get(number) {
-            Some(fragment) => Place::of(alloc, fragment),
-            None => Ok(Place::End),
-        }
-    }
-
     /// The update's place.
-    pub(crate) fn place(&self, alloc: Global) -> Result<Place, AllocError> {
-        self.place_of(alloc, self.next)
+    pub(crate) fn place(&self) -> Option<&Place> {
+        self.places.as_slice().get(self.next)
     }
 }
 
@@ -157,19 +136,19 @@ impl Chain {
     }
 
     /// The place of the update that stands in it; none where there is none.
-    pub(crate) fn place(&self, alloc: Global) -> Result<Option<Place>, AllocError> {
+    pub(crate) fn place(&self) -> Option<&Place> {
         match &self.update {
-            Some(update) => Ok(Some(update.place(alloc)?)),
-            None => Ok(None),
+            Some(update) => update.place(),
+            None => None,
         }
     }
 
     /// The update's place, of the newest version under update; none of every other.
-    pub(crate) fn reach(&self, alloc: Global, number: usize) -> Result<Option<Place>, AllocError> {
+    pub(crate) fn reach(&self, number: usize) -> Option<&Place> {
         if self.is_newest(number) {
-            return self.place(alloc);
+            return self.place();
         }
-        Ok(None)
+        None
     }
 }
 

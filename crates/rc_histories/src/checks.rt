@@ -14,6 +14,22 @@ use rc_position::{Key, Pos, Weight};
 use std::alloc::{AllocError, Global};
 use std::cmp::Ordering;
 
+// A version of a chain, and what it is tried against.
+#[derive(Drop)]
+struct Bench<'a> {
+    alloc: Global,
+    universe: &'a Universe,
+    // What the writes of its phase say.
+    source: &'a Source,
+    kind: ChainKind,
+    // The versions up to it.
+    versions: &'a [PlainVersion],
+    // Whether somebody needs it.
+    needed: bool,
+    // The place of the update that stands in it.
+    reach: Option<&'a Place>,
+}
+
 /// Every definition of a chain, where `sources` is what the writes say of each phase.
 pub(crate) fn check_chain(
     alloc: Global,
@@ -21,23 +37,12 @@ pub(crate) fn check_chain(
     sources: &[Source],
     chain: &Chain,
     tally: &mut Tally,
-) -> Result<(), AllocError> {
-    check_form(alloc, chain, tally);
-    check_versions(alloc, universe, sources, chain, tally)?;
-    check_place(alloc, chain, tally)
-}
-
-fn check_versions(
-    alloc: Global,
-    universe: &Universe,
-    sources: &[Source],
-    chain: &Chain,
-    tally: &mut Tally,
-) -> Result<(), AllocError> {
+) {
+    check_form(&end_position(alloc), chain, tally);
     for number in 0..chain.versions.len() {
-        check_number(alloc, universe, sources, chain, number, tally)?;
+        check_number(alloc, universe, sources, chain, number, tally);
     }
-    Ok(())
+    check_place(chain, tally);
 }
 
 // The version of a number, by what the writes of its phase say.
@@ -48,14 +53,21 @@ fn check_number(
     chain: &Chain,
     number: usize,
     tally: &mut Tally,
-) -> Result<(), AllocError> {
-    match sources.get(phase_of(chain, number)) {
-        Some(source) => check_version(alloc, universe, source, chain, number, tally),
-        None => {
-            tally.expect(false, "a version has a phase that no source has");
-            Ok(())
-        }
-    }
+) {
+    let Some(source) = sources.get(phase_of(chain, number)) else {
+        tally.expect(false, "a version has a phase that no source has");
+        return;
+    };
+    let bench = Bench {
+        alloc,
+        universe,
+        source,
+        kind: chain.kind,
+        versions: upto(chain.versions.as_slice(), number),
+        needed: chain.is_needed(number),
+        reach: chain.reach(number),
+    };
+    check_version(&bench, number, tally);
 }
 
 fn phase_of(chain: &Chain, number: usize) -> usize {
@@ -66,22 +78,13 @@ fn phase_of(chain: &Chain, number: usize) -> usize {
 }
 
 // Versions end with their end dummies, and snapshots pin versions that there are, and not the one under update.
-fn check_form(alloc: Global, chain: &Chain, tally: &mut Tally) {
-    let end = end_position(alloc);
-    check_entries(&end, chain, tally);
-    check_pins(chain, tally);
-}
-
-fn check_entries(end: &Pos, chain: &Chain, tally: &mut Tally) {
+fn check_form(end: &Pos, chain: &Chain, tally: &mut Tally) {
     for version in &chain.versions {
         tally.expect(
-            is_version(end, version),
+            is_version(end, version.entries.as_slice()),
             "entries ascend and end with the end dummy",
         );
     }
-}
-
-fn check_pins(chain: &Chain, tally: &mut Tally) {
     for pin in &chain.pins {
         if let Some(number) = pin {
             tally.expect(
@@ -97,9 +100,9 @@ fn may_be_pinned(chain: &Chain, number: usize) -> bool {
 }
 
 // Whether entries ascend, and the last one is the end dummy.
-fn is_version(end: &Pos, version: &PlainVersion) -> bool {
+fn is_version(end: &Pos, entries: &[Entry]) -> bool {
     let mut last: Option<&Entry> = None;
-    for entry in &version.entries {
+    for entry in entries {
         if let Some(before) = last
             && before.position >= entry.position
         {
@@ -114,16 +117,10 @@ fn is_version(end: &Pos, version: &PlainVersion) -> bool {
 }
 
 // The version under update stands at the update's place.
-fn check_place(alloc: Global, chain: &Chain, tally: &mut Tally) -> Result<(), AllocError> {
-    match chain.place(alloc)? {
-        Some(place) => check_newest(&place, chain.versions.as_slice(), tally),
-        None => {}
-    }
-    Ok(())
-}
-
-fn check_newest(place: &Place, versions: &[PlainVersion], tally: &mut Tally) {
-    if let Some(version) = versions.last() {
+fn check_place(chain: &Chain, tally: &mut Tally) {
+    if let Some(place) = chain.place()
+        && let Some(version) = chain.versions.last()
+    {
         tally.expect(
             stands_at(place, version),
             "the version under update stands at its place",
@@ -148,13 +145,11 @@ fn has_silent_statics(version: &PlainVersion) -> bool {
 
 fn has_silent_end(version: &PlainVersion) -> bool {
     match version.entries.as_slice() {
-        [end] => is_at_place(&end.position, version) && is_silent_gap(end.gap.flag, end.gap.tomb),
+        [end] => is_at_place(&end.position, version)
+            && end.gap.tomb.is_none()
+            && !is_deciding(end.gap.flag),
         _ => false,
     }
-}
-
-fn is_silent_gap(flag: Flag, tomb: Option<Tomb>) -> bool {
-    tomb.is_none() && !is_deciding(flag)
 }
 
 fn is_deciding(flag: Flag) -> bool {
@@ -164,425 +159,239 @@ fn is_deciding(flag: Flag) -> bool {
     }
 }
 
-// What is asked of one version of a chain.
-fn check_version(
-    alloc: Global,
-    universe: &Universe,
-    source: &Source,
-    chain: &Chain,
-    number: usize,
-    tally: &mut Tally,
-) -> Result<(), AllocError> {
-    check_bases(
-        alloc,
-        universe,
-        upto(chain.versions.as_slice(), number),
-        tally,
-    )?;
-    let reach = chain.reach(alloc, number)?;
-    check_reached(alloc, universe, source, chain, number, &reach, tally)
-}
-
-// At each position and over the gap behind it.
-fn check_bases(
-    alloc: Global,
-    universe: &Universe,
-    versions: &[PlainVersion],
-    tally: &mut Tally,
-) -> Result<(), AllocError> {
-    for x in &universe.all {
-        check_sides(alloc, versions, x, tally)?;
+// What is asked of one version of a chain: at each position and over the gap behind it, and where somebody needs it each position that is
+// reached, and reading it.
+fn check_version(bench: &Bench<'_>, number: usize, tally: &mut Tally) {
+    for x in &bench.universe.all {
+        check_base(bench, x, Side::On, tally);
+        check_base(bench, x, Side::Behind, tally);
     }
-    Ok(())
-}
-
-fn check_sides(
-    alloc: Global,
-    versions: &[PlainVersion],
-    x: &Pos,
-    tally: &mut Tally,
-) -> Result<(), AllocError> {
-    check_base(alloc, versions, x, Side::On, tally)?;
-    check_base(alloc, versions, x, Side::Behind, tally)
-}
-
-// The same of a version that an update has reached as far as this, if there is one.
-fn check_reached(
-    alloc: Global,
-    universe: &Universe,
-    source: &Source,
-    chain: &Chain,
-    number: usize,
-    reach: &Option<Place>,
-    tally: &mut Tally,
-) -> Result<(), AllocError> {
-    check_kind(alloc, universe, source, chain, number, reach, tally)?;
-    if !chain.is_needed(number) {
-        return Ok(());
+    match bench.kind {
+        ChainKind::Cache => check_cache(bench, tally),
+        ChainKind::Memtable => check_memtable(bench, alone(bench.versions, number), tally),
     }
-    let versions = upto(chain.versions.as_slice(), number);
-    check_needed(alloc, universe, source, chain.kind, versions, reach, tally)
-}
-
-// What is asked of a version of a cache's chain, and of a memtable's.
-fn check_kind(
-    alloc: Global,
-    universe: &Universe,
-    source: &Source,
-    chain: &Chain,
-    number: usize,
-    reach: &Option<Place>,
-    tally: &mut Tally,
-) -> Result<(), AllocError> {
-    let versions = upto(chain.versions.as_slice(), number);
-    let needed = chain.is_needed(number);
-    match chain.kind {
-        ChainKind::Cache => check_cache(alloc, source, versions, needed, reach, tally),
-        ChainKind::Memtable => {
-            check_inherits(alloc, universe, alone(versions, number), tally)?;
-            check_memtable(alloc, source, versions, needed, tally)
+    if bench.needed {
+        check_positions(bench, tally);
+        if bench.reach.is_none() {
+            check_reading(bench, tally);
         }
     }
 }
 
-fn check_cache(
-    alloc: Global,
-    source: &Source,
-    versions: &[PlainVersion],
-    needed: bool,
-    reach: &Option<Place>,
-    tally: &mut Tally,
-) -> Result<(), AllocError> {
-    check_within(alloc, source, versions, tally)?;
-    if !needed {
-        return Ok(());
+// Of a version of a cache: no version holds more than the source.
+fn check_cache(bench: &Bench<'_>, tally: &mut Tally) {
+    for number in 0..bench.versions.len() {
+        check_within(bench, alone(bench.versions, number), tally);
     }
-    check_head(alloc, source, versions, reach, tally)
-}
-
-fn check_memtable(
-    alloc: Global,
-    source: &Source,
-    versions: &[PlainVersion],
-    needed: bool,
-    tally: &mut Tally,
-) -> Result<(), AllocError> {
-    if !needed {
-        return Ok(());
-    }
-    check_writes(alloc, source, versions, tally)
-}
-
-// What is asked of a version that somebody needs: each position that is reached, and reading it.
-fn check_needed(
-    alloc: Global,
-    universe: &Universe,
-    source: &Source,
-    kind: ChainKind,
-    versions: &[PlainVersion],
-    reach: &Option<Place>,
-    tally: &mut Tally,
-) -> Result<(), AllocError> {
-    check_positions(alloc, universe, source, kind, versions, reach, tally)?;
-    match reach {
-        Some(_) => Ok(()),
-        None => check_reading(alloc, kind, source, versions, tally),
+    if bench.needed {
+        check_head(bench, tally);
     }
 }
 
-fn check_positions(
-    alloc: Global,
-    universe: &Universe,
-    source: &Source,
-    kind: ChainKind,
-    versions: &[PlainVersion],
-    reach: &Option<Place>,
-    tally: &mut Tally,
-) -> Result<(), AllocError> {
-    for x in &universe.all {
-        if is_reached(reach, x) {
-            check_position(alloc, kind, source, versions, x, tally)?;
+// Of a version of a memtable.
+fn check_memtable(bench: &Bench<'_>, one: &[PlainVersion], tally: &mut Tally) {
+    check_inherits(bench, one, &statics_at(bench.alloc, one), tally);
+    if bench.needed {
+        check_known(bench, tally);
+        check_written_head(bench, &statics_at(bench.alloc, bench.versions), tally);
+    }
+}
+
+fn check_positions(bench: &Bench<'_>, tally: &mut Tally) {
+    for x in &bench.universe.all {
+        if is_reached(bench.reach, x) {
+            check_position(
+                bench,
+                x,
+                &seen_at(bench.alloc, bench.versions, x, Side::On),
+                tally,
+            );
         }
     }
-    Ok(())
 }
 
 /// Whether a position stands before the update's place, where there is one.
-pub(crate) fn is_reached(reach: &Option<Place>, x: &Pos) -> bool {
+pub(crate) fn is_reached(reach: Option<&Place>, x: &Pos) -> bool {
     match reach {
-        Some(place) => place.is_past(x),
-        None => true,
+        Some(Place::Head | Place::Static) => false,
+        Some(Place::At(place)) => *x < *place,
+        Some(Place::End) | None => true,
     }
 }
 
 // No version holds more than the source.
-fn check_within(
-    alloc: Global,
-    source: &Source,
-    versions: &[PlainVersion],
-    tally: &mut Tally,
-) -> Result<(), AllocError> {
-    for number in 0..versions.len() {
-        check_one_within(alloc, source, alone(versions, number), tally)?;
+fn check_within(bench: &Bench<'_>, one: &[PlainVersion], tally: &mut Tally) {
+    check_content(
+        bench.alloc,
+        &statics_at(bench.alloc, one),
+        &bench.source.statics,
+        None,
+        "no version holds more than the source: static row",
+        tally,
+    );
+    for said in &bench.source.places {
+        check_content(
+            bench.alloc,
+            &seen_at(bench.alloc, one, &said.position, Side::On),
+            &said.row,
+            said.tomb,
+            "no version holds more than the source",
+            tally,
+        );
     }
-    Ok(())
 }
 
-fn check_one_within(
+// What is seen, joined into a row and a tombstone, leaves them as they are.
+fn check_content(
     alloc: Global,
-    source: &Source,
-    one: &[PlainVersion],
-    tally: &mut Tally,
-) -> Result<(), AllocError> {
-    let within = are_statics_within(alloc, one, source)?;
-    tally.expect(within, "no version holds more than the source: static row");
-    check_places_within(alloc, source, one, tally)
-}
-
-fn check_places_within(
-    alloc: Global,
-    source: &Source,
-    one: &[PlainVersion],
-    tally: &mut Tally,
-) -> Result<(), AllocError> {
-    for said in &source.places {
-        let within = is_place_within(alloc, one, said)?;
-        tally.expect(within, "no version holds more than the source");
-    }
-    Ok(())
-}
-
-fn are_statics_within(
-    alloc: Global,
-    one: &[PlainVersion],
-    source: &Source,
-) -> Result<bool, AllocError> {
-    let statics = statics_at(alloc, one)?;
-    is_within(alloc, &statics, &source.statics, None)
-}
-
-fn is_place_within(alloc: Global, one: &[PlainVersion], said: &Said) -> Result<bool, AllocError> {
-    let seen = seen_at(alloc, one, &said.position, Side::On)?;
-    is_within(alloc, &seen, &said.row, said.tomb)
-}
-
-// Whether what is seen, joined into a row and a tombstone, leaves them as they are.
-fn is_within(
-    alloc: Global,
-    seen: &Seen,
+    seen: &Result<Seen, AllocError>,
     row: &Row,
     tomb: Option<Tomb>,
-) -> Result<bool, AllocError> {
-    let joined = joined_rows(alloc, row, &seen.row)?;
-    Ok(is_same_row(&joined, row) && greater_tomb(tomb, seen.tomb) == tomb)
-}
-
-fn joined_rows(alloc: Global, row: &Row, other: &Row) -> Result<Row, AllocError> {
-    let mut joined = row.copy(alloc)?;
-    joined.join(alloc, other)?;
-    Ok(joined)
+    what: &'static str,
+    tally: &mut Tally,
+) {
+    let Ok(seen) = seen else {
+        return tally.lack();
+    };
+    let Ok(mut joined) = row.copy(alloc) else {
+        return tally.lack();
+    };
+    tally.note(joined.join(alloc, &seen.row));
+    tally.expect(
+        is_same_row(&joined, row) && greater_tomb(tomb, seen.tomb) == tomb,
+        what,
+    );
 }
 
 // The partition tombstone is complete, and the static row too where it is flagged, as far as the update's place has come.
-fn check_head(
-    alloc: Global,
-    source: &Source,
-    versions: &[PlainVersion],
-    reach: &Option<Place>,
-    tally: &mut Tally,
-) -> Result<(), AllocError> {
-    if is_past_head(reach) {
+fn check_head(bench: &Bench<'_>, tally: &mut Tally) {
+    if is_past_head(bench.reach) {
         tally.expect(
-            head_of(versions) == source.pt,
+            head_of(bench.versions) == bench.source.pt,
             "the partition tombstone is the source's",
         );
     }
-    let seen = statics_at(alloc, versions)?;
-    check_statics(source, is_past_statics(reach), &seen, tally);
-    Ok(())
-}
-
-fn is_past_head(reach: &Option<Place>) -> bool {
-    match reach {
-        Some(place) => place.is_past_head(),
-        None => true,
+    if is_past_statics(bench.reach) {
+        check_statics(bench, &statics_at(bench.alloc, bench.versions), tally);
     }
 }
 
-fn is_past_statics(reach: &Option<Place>) -> bool {
-    match reach {
-        Some(place) => place.is_past_statics(),
-        None => true,
-    }
+fn is_past_head(reach: Option<&Place>) -> bool {
+    !matches!(reach, Some(Place::Head))
 }
 
-// The static row of which this is seen, where the update has come past it or there is none.
-fn check_statics(source: &Source, past: bool, seen: &Seen, tally: &mut Tally) {
-    if past && is_known_in(ChainKind::Cache, seen.flag) {
+fn is_past_statics(reach: Option<&Place>) -> bool {
+    !matches!(reach, Some(Place::Head | Place::Static))
+}
+
+// The static row of which this is seen.
+fn check_statics(bench: &Bench<'_>, seen: &Result<Seen, AllocError>, tally: &mut Tally) {
+    let Ok(seen) = seen else {
+        return tally.lack();
+    };
+    if is_known_in(ChainKind::Cache, seen.flag) {
         tally.expect(
-            is_same_row(&seen.row, &source.statics),
+            is_same_row(&seen.row, &bench.source.statics),
             "a known static row is the source's",
         );
     }
 }
 
 // A position that is flagged is the source's, and one that is known and bare has the tombstone of the gap behind it.
-fn check_position(
-    alloc: Global,
-    kind: ChainKind,
-    source: &Source,
-    versions: &[PlainVersion],
-    x: &Pos,
-    tally: &mut Tally,
-) -> Result<(), AllocError> {
-    let seen = seen_at(alloc, versions, x, Side::On)?;
-    check_seen(alloc, kind, source, versions, x, &seen, tally)
-}
-
-// The same of a position at which this is seen.
-fn check_seen(
-    alloc: Global,
-    kind: ChainKind,
-    source: &Source,
-    versions: &[PlainVersion],
-    x: &Pos,
-    seen: &Seen,
-    tally: &mut Tally,
-) -> Result<(), AllocError> {
-    if !is_known_in(kind, seen.flag) {
-        return Ok(());
+fn check_position(bench: &Bench<'_>, x: &Pos, seen: &Result<Seen, AllocError>, tally: &mut Tally) {
+    let Ok(seen) = seen else {
+        return tally.lack();
+    };
+    if !is_known_in(bench.kind, seen.flag) {
+        return;
     }
-    check_flagged(source, x, seen, tally);
-    if !seen.row.is_empty() || !is_before_end(alloc, x) {
-        return Ok(());
-    }
-    check_bare(alloc, kind, versions, x, seen.tomb, tally)
-}
-
-// What is seen at a position is the source's.
-fn check_flagged(source: &Source, x: &Pos, seen: &Seen, tally: &mut Tally) {
-    if let Some(said) = source.at(x) {
+    if let Some(said) = bench.source.at(x) {
         tally.expect(
-            is_same_row(&seen.row, &said.row) && seen.tomb == said.tomb,
+            is_said(said, &seen.row, seen.tomb),
             "what is flagged is the source's",
         );
     }
-}
-
-fn is_before_end(alloc: Global, x: &Pos) -> bool {
-    *x < end_position(alloc)
+    if seen.row.is_empty() && *x < end_position(bench.alloc) {
+        check_bare(bench, x, seen.tomb, tally);
+    }
 }
 
 // A bare position has this tombstone where it is known, and so has the gap behind it.
-fn check_bare(
-    alloc: Global,
-    kind: ChainKind,
-    versions: &[PlainVersion],
-    x: &Pos,
-    tomb: Option<Tomb>,
-    tally: &mut Tally,
-) -> Result<(), AllocError> {
-    if !is_known_at(alloc, kind, versions, x)? {
-        return Ok(());
+fn check_bare(bench: &Bench<'_>, x: &Pos, tomb: Option<Tomb>, tally: &mut Tally) {
+    match is_known_at(bench.alloc, bench.kind, bench.versions, x) {
+        Ok(true) => check_behind(
+            &seen_at(bench.alloc, bench.versions, x, Side::Behind),
+            tomb,
+            tally,
+        ),
+        Ok(false) => {}
+        Err(_) => tally.lack(),
     }
-    check_behind(alloc, versions, x, tomb, tally)
 }
 
-fn check_behind(
-    alloc: Global,
-    versions: &[PlainVersion],
-    x: &Pos,
-    tomb: Option<Tomb>,
-    tally: &mut Tally,
-) -> Result<(), AllocError> {
-    let behind = seen_at(alloc, versions, x, Side::Behind)?;
-    tally.expect(
-        behind.tomb == tomb,
-        "the tombstone at a bare known position is that of the gap behind it",
-    );
-    Ok(())
+fn check_behind(behind: &Result<Seen, AllocError>, tomb: Option<Tomb>, tally: &mut Tally) {
+    match behind {
+        Ok(behind) => tally.expect(
+            behind.tomb == tomb,
+            "the tombstone at a bare known position is that of the gap behind it",
+        ),
+        Err(_) => tally.lack(),
+    }
 }
 
 // What is seen is what the versions from the base on hold, and the flag that of the base.
-fn check_base(
-    alloc: Global,
-    versions: &[PlainVersion],
-    x: &Pos,
-    side: Side,
-    tally: &mut Tally,
-) -> Result<(), AllocError> {
-    let joined = from_base(alloc, versions, x, side)?;
-    check_joined(alloc, versions, x, side, &joined, tally)
+fn check_base(bench: &Bench<'_>, x: &Pos, side: Side, tally: &mut Tally) {
+    let mut joined = Seen {
+        flag: Flag::Inherit,
+        row: Row::empty(bench.alloc),
+        tomb: None,
+    };
+    join_all(bench, x, side, &mut joined, tally);
+    check_joined(
+        &seen_at(bench.alloc, bench.versions, x, side),
+        &joined,
+        tally,
+    );
 }
 
 // What is seen is this.
-fn check_joined(
-    alloc: Global,
-    versions: &[PlainVersion],
-    x: &Pos,
-    side: Side,
-    joined: &Seen,
-    tally: &mut Tally,
-) -> Result<(), AllocError> {
-    let seen = seen_at(alloc, versions, x, side)?;
-    tally.expect(
-        is_same_seen(&seen, joined),
-        "what is seen is what stands from the base on",
-    );
-    Ok(())
+fn check_joined(seen: &Result<Seen, AllocError>, joined: &Seen, tally: &mut Tally) {
+    match seen {
+        Ok(seen) => tally.expect(
+            is_same_flag(seen.flag, joined.flag)
+                && seen.tomb == joined.tomb
+                && is_same_row(&seen.row, &joined.row),
+            "what is seen is what stands from the base on",
+        ),
+        Err(_) => tally.lack(),
+    }
 }
 
 // What the versions from the base on hold, as one.
-fn from_base(
-    alloc: Global,
-    versions: &[PlainVersion],
-    x: &Pos,
-    side: Side,
-) -> Result<Seen, AllocError> {
-    let mut joined = Seen {
-        flag: Flag::Inherit,
-        row: Row::empty(alloc),
-        tomb: None,
-    };
-    join_all(alloc, versions, x, side, &mut joined)?;
-    Ok(joined)
-}
-
-fn join_all(
-    alloc: Global,
-    versions: &[PlainVersion],
-    x: &Pos,
-    side: Side,
-    joined: &mut Seen,
-) -> Result<(), AllocError> {
-    let base = base_at(versions, x, side);
-    for number in base.unwrap_or(0)..versions.len() {
-        let one = seen_at(alloc, alone(versions, number), x, side);
-        join_one(alloc, one, Some(number) == base, joined)?;
+fn join_all(bench: &Bench<'_>, x: &Pos, side: Side, joined: &mut Seen, tally: &mut Tally) {
+    let base = base_at(bench.versions, x, side);
+    for number in base.unwrap_or(0)..bench.versions.len() {
+        let one = seen_at(bench.alloc, alone(bench.versions, number), x, side);
+        join_one(bench.alloc, &one, Some(number) == base, joined, tally);
     }
-    Ok(())
 }
 
 // What one version holds, whose flag it is where that is the base.
 fn join_one(
     alloc: Global,
-    one: Result<Seen, AllocError>,
+    one: &Result<Seen, AllocError>,
     is_base: bool,
     joined: &mut Seen,
-) -> Result<(), AllocError> {
-    let one = one?;
+    tally: &mut Tally,
+) {
+    let Ok(one) = one else {
+        return tally.lack();
+    };
     if is_base {
         joined.flag = one.flag;
     }
     joined.tomb = greater_tomb(joined.tomb, one.tomb);
-    joined.row.join(alloc, &one.row)
-}
-
-// Whether the same is seen.
-fn is_same_seen(seen: &Seen, other: &Seen) -> bool {
-    is_same_flag(seen.flag, other.flag)
-        && seen.tomb == other.tomb
-        && is_same_row(&seen.row, &other.row)
+    tally.note(joined.row.join(alloc, &one.row));
 }
 
 fn is_same_flag(flag: Flag, other: Flag) -> bool {
@@ -592,17 +401,18 @@ fn is_same_flag(flag: Flag, other: Flag) -> bool {
 
 // All flags of a version of a memtable's chain are Inherit.
 fn check_inherits(
-    alloc: Global,
-    universe: &Universe,
+    bench: &Bench<'_>,
     one: &[PlainVersion],
+    statics: &Result<Seen, AllocError>,
     tally: &mut Tally,
-) -> Result<(), AllocError> {
-    let statics = statics_at(alloc, one)?;
-    tally.expect(
-        !is_deciding(statics.flag) && has_no_base(universe, one),
-        "all flags of a memtable are Inherit",
-    );
-    Ok(())
+) {
+    match statics {
+        Ok(statics) => tally.expect(
+            !is_deciding(statics.flag) && has_no_base(bench.universe, one),
+            "all flags of a memtable are Inherit",
+        ),
+        Err(_) => tally.lack(),
+    }
 }
 
 // Whether every place of a version is Inherit.
@@ -615,195 +425,130 @@ fn has_no_base(universe: &Universe, one: &[PlainVersion]) -> bool {
     true
 }
 
-// A memtable's chain stands for its writes, and every place is known.
-fn check_writes(
-    alloc: Global,
-    source: &Source,
-    versions: &[PlainVersion],
-    tally: &mut Tally,
-) -> Result<(), AllocError> {
-    check_known(alloc, source, versions, tally)?;
-    check_written_head(alloc, source, versions, tally)
-}
-
-fn check_known(
-    alloc: Global,
-    source: &Source,
-    versions: &[PlainVersion],
-    tally: &mut Tally,
-) -> Result<(), AllocError> {
-    for said in &source.places {
-        tally.expect(
-            is_known_at(alloc, ChainKind::Memtable, versions, &said.position)?,
-            "every place of a memtable is known",
-        );
+// Every place of a memtable is known.
+fn check_known(bench: &Bench<'_>, tally: &mut Tally) {
+    for said in &bench.source.places {
+        match is_known_at(
+            bench.alloc,
+            ChainKind::Memtable,
+            bench.versions,
+            &said.position,
+        ) {
+            Ok(known) => tally.expect(known, "every place of a memtable is known"),
+            Err(_) => tally.lack(),
+        }
     }
-    Ok(())
 }
 
-fn check_written_head(
-    alloc: Global,
-    source: &Source,
-    versions: &[PlainVersion],
-    tally: &mut Tally,
-) -> Result<(), AllocError> {
-    let statics = statics_at(alloc, versions)?;
-    tally.expect(
-        is_same_row(&statics.row, &source.statics) && head_of(versions) == source.pt,
-        "the head and the static row of a memtable are those of its writes",
-    );
-    Ok(())
+// A memtable's chain stands for its writes.
+fn check_written_head(bench: &Bench<'_>, statics: &Result<Seen, AllocError>, tally: &mut Tally) {
+    match statics {
+        Ok(statics) => tally.expect(
+            is_same_row(&statics.row, &bench.source.statics)
+                && head_of(bench.versions) == bench.source.pt,
+            "the head and the static row of a memtable are those of its writes",
+        ),
+        Err(_) => tally.lack(),
+    }
 }
 
 // The parts from the start to the end: each one that is not missing says what the source says.
-fn check_reading(
-    alloc: Global,
-    kind: ChainKind,
-    source: &Source,
-    versions: &[PlainVersion],
-    tally: &mut Tally,
-) -> Result<(), AllocError> {
-    let end = end_position(alloc);
-    let mut place = start_position(alloc);
-    read_parts(alloc, kind, source, versions, &mut place, &end, tally)
+fn check_reading(bench: &Bench<'_>, tally: &mut Tally) {
+    let mut place = start_position(bench.alloc);
+    read_parts(bench, &mut place, &end_position(bench.alloc), tally);
 }
 
 // The parts from a place on.
-fn read_parts(
-    alloc: Global,
-    kind: ChainKind,
-    source: &Source,
-    versions: &[PlainVersion],
-    place: &mut Pos,
-    end: &Pos,
-    tally: &mut Tally,
-) -> Result<(), AllocError> {
+fn read_parts(bench: &Bench<'_>, place: &mut Pos, end: &Pos, tally: &mut Tally) {
     for _ in 0..64 {
-        if !read_part(alloc, kind, source, versions, place, end, tally)? {
-            return Ok(());
+        if !read_part(bench, place, end, tally) {
+            return;
         }
     }
     tally.expect(false, "a reader comes to the end");
-    Ok(())
 }
 
 // The first part from a place on against the source; whether there is one, and then the place is where the next one begins.
-fn read_part(
-    alloc: Global,
-    kind: ChainKind,
-    source: &Source,
-    versions: &[PlainVersion],
-    place: &mut Pos,
-    end: &Pos,
-    tally: &mut Tally,
-) -> Result<bool, AllocError> {
-    let part = part_at(alloc, kind, versions, place, end)?;
-    let next = check_part(alloc, source, place, &part, tally);
+fn read_part(bench: &Bench<'_>, place: &mut Pos, end: &Pos, tally: &mut Tally) -> bool {
+    let part = part_at(bench, place, end);
+    let next = check_part(bench, place, &part, tally);
     go_on(place, next, tally)
 }
 
 // The place is where the next part begins, if there is one.
-fn go_on(
-    place: &mut Pos,
-    next: Result<Option<Pos>, AllocError>,
-    tally: &mut Tally,
-) -> Result<bool, AllocError> {
-    let Some(next) = next? else {
-        return Ok(false);
-    };
-    tally.expect(*place < next, "a part ends behind its beginning");
-    *place = next;
-    Ok(true)
+fn go_on(place: &mut Pos, next: Option<Pos>, tally: &mut Tally) -> bool {
+    match next {
+        Some(next) => {
+            tally.expect(*place < next, "a part ends behind its beginning");
+            *place = next;
+            true
+        }
+        None => false,
+    }
 }
 
 // The first part from a place on; the end where the place is behind it.
-fn part_at(
-    alloc: Global,
-    kind: ChainKind,
-    versions: &[PlainVersion],
-    place: &Pos,
-    end: &Pos,
-) -> Result<Part, AllocError> {
+fn part_at(bench: &Bench<'_>, place: &Pos, end: &Pos) -> Result<Part, AllocError> {
     match place.cmp(end) {
-        Ordering::Less | Ordering::Equal => first_part(alloc, kind, versions, place, end),
+        Ordering::Less | Ordering::Equal => {
+            first_part(bench.alloc, bench.kind, bench.versions, place, end)
+        }
         Ordering::Greater => Ok(Part::End),
     }
 }
 
 // One part against the source; where the next one begins.
 fn check_part(
-    alloc: Global,
-    source: &Source,
+    bench: &Bench<'_>,
     from: &Pos,
-    part: &Part,
+    part: &Result<Part, AllocError>,
     tally: &mut Tally,
-) -> Result<Option<Pos>, AllocError> {
+) -> Option<Pos> {
     match part {
-        Part::Row { key, row, tomb } => {
-            check_row(alloc, source, from, key, row, *tomb, tally)?;
-            some(behind_key(alloc, key))
+        Ok(Part::Row { key, row, tomb }) => {
+            tally.expect(
+                is_row_at(from, key) && is_row_said(bench.source, from, row, *tomb),
+                "a row that is read is the source's",
+            );
+            tally.made(behind_key(bench.alloc, key))
         }
-        Part::Gap { to, tomb } => {
-            check_gap(source, from, to, *tomb, tally);
-            some(to.copy(alloc))
+        Ok(Part::Gap { to, tomb }) => {
+            check_gap(bench.source, from, to, *tomb, tally);
+            tally.made(to.copy(bench.alloc))
         }
-        Part::Missing { to } => some(to.copy(alloc)),
-        Part::End => Ok(None),
+        Ok(Part::Missing { to }) => tally.made(to.copy(bench.alloc)),
+        Ok(Part::End) => None,
+        Err(_) => {
+            tally.lack();
+            None
+        }
     }
 }
 
-// There is a next part, at this position.
-fn some(next: Result<Pos, AllocError>) -> Result<Option<Pos>, AllocError> {
-    match next {
-        Ok(next) => Ok(Some(next)),
-        Err(error) => Err(error),
-    }
-}
-
-fn check_row(
-    alloc: Global,
-    source: &Source,
-    from: &Pos,
-    key: &Key,
-    row: &Row,
-    tomb: Option<Tomb>,
-    tally: &mut Tally,
-) -> Result<(), AllocError> {
-    let at = row_position(alloc, key)?;
-    tally.expect(
-        at == *from && is_said(source, &at, row, tomb),
-        "a row that is read is the source's",
-    );
-    Ok(())
-}
-
-// The position of the row of a key.
-fn row_position(alloc: Global, key: &Key) -> Result<Pos, AllocError> {
-    match key.copy(alloc) {
-        Ok(prefix) => Ok(Pos {
-            prefix,
-            weight: Weight::At,
-        }),
-        Err(error) => Err(error),
-    }
+// Whether a position is that of the row of a key.
+fn is_row_at(x: &Pos, key: &Key) -> bool {
+    x.weight == Weight::At && x.prefix == *key
 }
 
 // Whether the source says this at a position.
-fn is_said(source: &Source, at: &Pos, row: &Row, tomb: Option<Tomb>) -> bool {
+fn is_row_said(source: &Source, at: &Pos, row: &Row, tomb: Option<Tomb>) -> bool {
     match source.at(at) {
-        Some(said) => is_same_row(&said.row, row) && said.tomb == tomb,
+        Some(said) => is_said(said, row, tomb),
         None => false,
     }
+}
+
+fn is_said(said: &Said, row: &Row, tomb: Option<Tomb>) -> bool {
+    is_same_row(&said.row, row) && said.tomb == tomb
 }
 
 fn check_gap(source: &Source, from: &Pos, to: &Pos, tomb: Option<Tomb>, tally: &mut Tally) {
     for said in &source.places {
         if *from <= said.position && said.position < *to {
-            tally.expect(is_gap(said, tomb), "a gap that is read is the source's");
+            tally.expect(
+                said.row.is_empty() && said.tomb == tomb,
+                "a gap that is read is the source's",
+            );
         }
     }
-}
-
-fn is_gap(said: &Said, tomb: Option<Tomb>) -> bool {
-    said.row.is_empty() && said.tomb == tomb
 }

@@ -5,32 +5,24 @@ use crate::history::History;
 use crate::step::{Effect, Step};
 use crate::universe::end_position;
 use rc_core::{Entry, Flag, PlainVersion, drop_entry, evict_under_update, mark_of_lost};
-use std::alloc::{AllocError, Global};
+use rc_position::Pos;
+use std::alloc::Global;
 
 /// Some object of some version of a cache's chain.
-pub(crate) fn evict(alloc: Global, history: &mut History) -> Result<Option<Step>, AllocError> {
+pub(crate) fn evict(alloc: Global, history: &mut History) -> Option<Step> {
     let number = history.chance.index(history.chain.versions.len());
     let statics = history.chance.happens(15);
-    let reach = history.chain.reach(alloc, number)?;
-    Ok(evict_from(alloc, history, number, statics, &reach))
-}
-
-// The same of the version of a number, which an update has reached as far as this, if there is one.
-fn evict_from(
-    alloc: Global,
-    history: &mut History,
-    number: usize,
-    statics: bool,
-    reach: &Option<Place>,
-) -> Option<Step> {
+    let is_newest = history.chain.is_newest(number);
     let version = history.chain.versions.get_mut(number)?;
     if statics {
         return evict_statics(version);
     }
     let index = history.chance.index(version.entries.len());
-    match reach {
-        Some(place) => evict_at_place(alloc, place, version, index),
-        None => evict_entry(&mut version.entries, index),
+    match &history.chain.update {
+        Some(update) if is_newest => {
+            evict_at_place(&end_position(alloc), update.place(), version, index)
+        }
+        _ => evict_entry(&mut version.entries, index),
     }
 }
 
@@ -57,20 +49,19 @@ fn evict_entry(entries: &mut Vec<Entry>, index: usize) -> Option<Step> {
     Some(Step::new("eviction of an end dummy", Effect::Less))
 }
 
-// Of the version under update.
+// Of the version under update; everything stands before the end.
 fn evict_at_place(
-    alloc: Global,
-    place: &Place,
+    end: &Pos,
+    place: Option<&Place>,
     version: &mut PlainVersion,
     index: usize,
 ) -> Option<Step> {
     if index >= version.entries.len() {
         return None;
     }
-    let end = end_position(alloc);
     let place = match place {
-        Place::Head | Place::Static | Place::End => &end,
-        Place::At(place) => place,
+        Some(Place::At(place)) => place,
+        _ => end,
     };
     if evict_under_update(place, version, index) {
         Some(Step::new("eviction under update before the place", Effect::Open))

@@ -79,7 +79,7 @@ fn take_cache_step(
         60 | 61 => fill_statics(alloc, history),
         62..75 => fill_gap(alloc, history),
         75..85 => fill_row(alloc, history),
-        _ => evict(alloc, history),
+        _ => Ok(evict(alloc, history)),
     }
 }
 

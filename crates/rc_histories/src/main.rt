@@ -56,21 +56,10 @@ fn replay_steps(alloc: Global, history: &mut History, tally: &mut Tally) -> Resu
 // One step, if what chance takes is lawful now, and every definition after it.
 fn replay_step(alloc: Global, history: &mut History, tally: &mut Tally) -> Result<(), AllocError> {
     let before = View::of(alloc, &history.universe, &history.chain)?;
-    let taken = history.take_step(alloc, tally);
-    check_taken(alloc, history, taken, &before, tally)
-}
-
-// The same of a step that was taken, if one was.
-fn check_taken(
-    alloc: Global,
-    history: &History,
-    taken: Result<Option<Step>, AllocError>,
-    before: &View,
-    tally: &mut Tally,
-) -> Result<(), AllocError> {
-    match taken? {
-        Some(step) => check_step(alloc, history, step, before, tally),
-        None => Ok(()),
+    match history.take_step(alloc, tally) {
+        Ok(Some(step)) => check_step(alloc, history, step, &before, tally),
+        Ok(None) => Ok(()),
+        Err(error) => Err(error),
     }
 }
 
@@ -84,7 +73,10 @@ fn check_step(
 ) -> Result<(), AllocError> {
     tally.count(step.kind);
     let sources = history.sources.as_slice();
-    check_chain(alloc, &history.universe, sources, &history.chain, tally)?;
+    check_chain(alloc, &history.universe, sources, &history.chain, tally);
+    if tally.lacking {
+        return Err(AllocError);
+    }
     let now = View::of(alloc, &history.universe, &history.chain)?;
     check_view(history, step, before, &now, tally);
     Ok(())

@@ -1,5 +1,6 @@
 //! How often each kind of step was taken, and what was found.
 
+use rc_position::Pos;
 use std::alloc::{AllocError, Global};
 
 /// The kinds of steps.
@@ -43,6 +44,8 @@ pub(crate) struct Tally {
     pub(crate) checks: u64,
     /// What did not hold, first.
     pub(crate) broken: Option<&'static str>,
+    /// Whether memory was wanted in a check, and there was none.
+    pub(crate) lacking: bool,
 }
 
 impl Tally {
@@ -56,6 +59,7 @@ impl Tally {
             steps,
             checks: 0,
             broken: None,
+            lacking: false,
         })
     }
 
@@ -82,6 +86,29 @@ impl Tally {
         self.checks = self.checks.saturating_add(1);
         if !holds && self.broken.is_none() {
             self.broken = Some(what);
+        }
+    }
+
+    /// There was no memory for a check.
+    pub(crate) fn lack(&mut self) {
+        self.lacking = true;
+    }
+
+    /// Something was done, where there was memory.
+    pub(crate) fn note(&mut self, done: Result<(), AllocError>) {
+        if done.is_err() {
+            self.lacking = true;
+        }
+    }
+
+    /// A position that was made, where there was memory.
+    pub(crate) fn made(&mut self, made: Result<Pos, AllocError>) -> Option<Pos> {
+        match made {
+            Ok(made) => Some(made),
+            Err(_) => {
+                self.lacking = true;
+                None
+            }
         }
     }
 }

@@ -1,6 +1,6 @@
 //! An update of the newest version: unit by unit, or given up where there is no room.
 
-use crate::chain::{Chain, Place, Update, put_entries, version_of};
+use crate::chain::{Chain, Place, Update, push_places, put_entries, version_of};
 use crate::filling::join_statics;
 use crate::history::{History, push_again};
 use crate::source::{Source, some_mutation};
@@ -69,21 +69,21 @@ fn begin_with(
     }
     let version = version_of(alloc, Flag::Inherit, phase)?;
     history.chain.versions.push(version)?;
-    put_update(&mut history.chain, change.fragments(alloc))?;
+    put_update(alloc, &mut history.chain, change)?;
     Ok(Some(Step::carrying("update begun", Effect::Open)))
 }
 
-// An update of these fragments stands in the chain; without memory none.
-fn put_update(
-    chain: &mut Chain,
-    fragments: Result<FragList, AllocError>,
-) -> Result<(), AllocError> {
-    chain.update = Some(Update {
-        fragments: fragments?,
+// An update of what is written stands in the chain; without memory none.
+fn put_update(alloc: Global, chain: &mut Chain, change: &Mutation) -> Result<(), AllocError> {
+    let mut update = Update {
+        fragments: change.fragments(alloc)?,
+        places: Vec::new(alloc),
         next: 0,
         force: None,
-    });
-    Ok(())
+    };
+    let made = push_places(alloc, update.fragments.as_slice(), &mut update.places);
+    chain.update = Some(update);
+    made
 }
 
 /// A flush that does not name the partition: the newest version of an attached chain stands for the new phase.
@@ -108,64 +108,41 @@ pub(crate) fn unit(
     tally: &mut Tally,
 ) -> Result<Option<Step>, AllocError> {
     let room = !history.chance.happens(6);
-    match history.chain.place(alloc)? {
-        Some(place) => unit_at(alloc, history, &place, room, tally),
+    match history.chain.place() {
+        Some(Place::End) => {
+            history.chain.update = None;
+            Ok(Some(Step::carrying("update ended", Effect::Open)))
+        }
+        Some(Place::Static | Place::At(_)) if !room => Ok(give_up(alloc, &mut history.chain)),
+        Some(_) => advance(alloc, &mut history.chain, tally),
         None => Ok(None),
     }
 }
 
-// The unit at a place, where there is room or not.
-fn unit_at(
-    alloc: Global,
-    history: &mut History,
-    place: &Place,
-    room: bool,
-    tally: &mut Tally,
-) -> Result<Option<Step>, AllocError> {
-    if let Place::End = place {
-        history.chain.update = None;
-        return Ok(Some(Step::carrying("update ended", Effect::Open)));
-    }
-    if !room && place.is_past_head() {
-        return Ok(give_up(alloc, &mut history.chain, place));
-    }
-    advance(alloc, history, tally)
-}
-
 // The update ends, and what stands from its place on is lost.
-fn give_up(alloc: Global, chain: &mut Chain, place: &Place) -> Option<Step> {
-    chain.update = None;
+fn give_up(alloc: Global, chain: &mut Chain) -> Option<Step> {
     let version = chain.versions.last_mut()?;
-    lose(alloc, place, version);
+    if let Some(update) = &chain.update {
+        lose(alloc, update.place(), version);
+    }
+    chain.update = None;
     Some(Step::new("unit without room", Effect::Open))
 }
 
-// The next fragment goes into the newest version.
+// The next fragment goes into the newest version, and versions that are spoiled stand not at the update's place then.
 fn advance(
     alloc: Global,
-    history: &mut History,
+    chain: &mut Chain,
     tally: &mut Tally,
 ) -> Result<Option<Step>, AllocError> {
-    let Some(update) = history.chain.update.as_mut() else {
-        return Ok(None);
-    };
-    let Some(version) = history.chain.versions.last_mut() else {
+    let (Some(update), Some(version)) = (chain.update.as_mut(), chain.versions.last_mut()) else {
         return Ok(None);
     };
     let kind = put_next(alloc, update, version)?;
-    refuse_next(alloc, update, version, tally)?;
+    if let Some(Place::At(place)) = update.place() {
+        refuse_spoiled(alloc, place, version, tally)?;
+    }
     Ok(Some(Step::carrying(kind, Effect::Open)))
-}
-
-// Versions that are spoiled stand not at the update's place.
-fn refuse_next(
-    alloc: Global,
-    update: &Update,
-    version: &PlainVersion,
-    tally: &mut Tally,
-) -> Result<(), AllocError> {
-    let place = update.place(alloc)?;
-    refuse_spoiled(alloc, &place, version, tally)
 }
 
 // The next fragment goes into the version; what kind of unit that is.
@@ -174,25 +151,17 @@ fn put_next(
     update: &mut Update,
     version: &mut PlainVersion,
 ) -> Result<&'static str, AllocError> {
-    let next = update.place_of(alloc, update.next.saturating_add(1))?;
-    put_before(alloc, update, &next, version)
-}
-
-// The next fragment, whose next place is this.
-fn put_before(
-    alloc: Global,
-    update: &mut Update,
-    next: &Place,
-    version: &mut PlainVersion,
-) -> Result<&'static str, AllocError> {
-    let Some(fragment) = update.fragments.as_slice().get(update.next) else {
+    let next = update.next.saturating_add(1);
+    let (Some(fragment), Some(place)) = (
+        update.fragments.as_slice().get(update.next),
+        update.places.as_slice().get(next),
+    ) else {
         return Ok("update ended");
     };
-    put(alloc, update.force, fragment, next, version)?;
-    let kind = kind_of(fragment, next);
-    let force = force_behind(update.force, fragment);
-    update.force = force;
-    update.next = update.next.saturating_add(1);
+    put(alloc, update.force, fragment, place, version)?;
+    let kind = kind_of(fragment, place);
+    update.force = force_behind(update.force, fragment);
+    update.next = next;
     Ok(kind)
 }
 
@@ -214,11 +183,22 @@ fn put(
     version: &mut PlainVersion,
 ) -> Result<(), AllocError> {
     put_head(alloc, fragment, version)?;
-    let end = end_position(alloc);
-    let next = match next {
-        Place::At(x) => x,
-        Place::Head | Place::Static | Place::End => &end,
-    };
+    match next {
+        Place::At(x) => put_upto(alloc, force, fragment, x, version),
+        Place::Head | Place::Static | Place::End => {
+            put_upto(alloc, force, fragment, &end_position(alloc), version)
+        }
+    }
+}
+
+// What it says of entries, where the next place is here.
+fn put_upto(
+    alloc: Global,
+    force: Option<Tomb>,
+    fragment: &Frag,
+    next: &Pos,
+    version: &mut PlainVersion,
+) -> Result<(), AllocError> {
     let made = put_fragment(alloc, force, fragment, next, version.entries.as_slice());
     put_entries(version, made)
 }
@@ -234,15 +214,15 @@ fn put_head(alloc: Global, fragment: &Frag, version: &mut PlainVersion) -> Resul
 }
 
 // From the place on, which is not the head, everything is lost.
-fn lose(alloc: Global, place: &Place, version: &mut PlainVersion) {
+fn lose(alloc: Global, place: Option<&Place>, version: &mut PlainVersion) {
     match place {
-        Place::Head | Place::End => {}
-        Place::Static => {
+        Some(Place::Static) => {
             version.statics = None;
             version.static_flag = Flag::Unknown;
             lose_rest(&start_position(alloc), version.entries.as_mut_slice());
         }
-        Place::At(x) => lose_rest(x, version.entries.as_mut_slice()),
+        Some(Place::At(x)) => lose_rest(x, version.entries.as_mut_slice()),
+        Some(Place::Head | Place::End) | None => {}
     }
 }
 
@@ -260,17 +240,15 @@ fn is_over_nothing(fragment: &Frag, next: &Place) -> bool {
 // evicted; and with a tombstone on a gap behind the place in which no position stands, where the place is before a key.
 fn refuse_spoiled(
     alloc: Global,
-    place: &Place,
+    place: &Pos,
     version: &PlainVersion,
     tally: &mut Tally,
 ) -> Result<(), AllocError> {
-    match place {
-        Place::At(place) if *place < end_position(alloc) => {
-            refuse_dummy(alloc, place, version, tally)?;
-            refuse_tomb(alloc, place, version, tally)
-        }
-        _ => Ok(()),
+    if *place < end_position(alloc) {
+        refuse_dummy(alloc, place, version, tally)?;
+        refuse_tomb(alloc, place, version, tally)?;
     }
+    Ok(())
 }
 
 // A version with a dummy behind the place.

@@ -1,6 +1,6 @@
 //! What is seen of a chain and what is carried, before a step and behind it.
 
-use crate::chain::{Chain, Place, upto};
+use crate::chain::{Chain, upto};
 use crate::checks::is_reached;
 use crate::history::History;
 use crate::source::is_same_row;
@@ -11,9 +11,11 @@ use rc_core::{ChainKind, PlainVersion, Seen, Side, is_known_at, is_known_in, see
 use rc_position::Pos;
 use std::alloc::{AllocError, Global};
 
-// What is seen of one place.
+// What is seen of one place through a version that somebody needs.
 #[derive(Drop)]
 struct Sight {
+    // The number of the version.
+    version: usize,
     // The number of the position in the universe; none of the static row.
     position: Option<usize>,
     // Whether it is the gap right behind the position.
@@ -22,73 +24,15 @@ struct Sight {
     seen: Seen,
 }
 
-// What is seen of a version that somebody needs: at each position and over the gap behind it, and the static row last.
-#[derive(Drop)]
-struct Picture {
-    // In order.
-    sights: Vec<Sight>,
-}
-
-// Pictures of the versions of a chain that somebody needs, the oldest first.
-fn push_pictures(
-    alloc: Global,
-    universe: &Universe,
-    chain: &Chain,
-    pictures: &mut Vec<Picture>,
-) -> Result<(), AllocError> {
-    for number in 0..chain.versions.len() {
-        if chain.is_needed(number) {
-            let versions = upto(chain.versions.as_slice(), number);
-            pictures.push(picture_of(alloc, universe, versions)?)?;
-        }
-    }
-    Ok(())
-}
-
-fn picture_of(
-    alloc: Global,
-    universe: &Universe,
-    versions: &[PlainVersion],
-) -> Result<Picture, AllocError> {
-    let mut sights = Vec::new(alloc);
-    push_sights(alloc, universe, versions, &mut sights)?;
-    Ok(Picture { sights })
-}
-
-fn push_sights(
-    alloc: Global,
-    universe: &Universe,
-    versions: &[PlainVersion],
-    sights: &mut Vec<Sight>,
-) -> Result<(), AllocError> {
-    for (number, x) in universe.all.iter().enumerate() {
-        let at = seen_at(alloc, versions, x, Side::On);
-        push_sight(Some(number), false, at, sights)?;
-        let gap = seen_at(alloc, versions, x, Side::Behind);
-        push_sight(Some(number), true, gap, sights)?;
-    }
-    push_sight(None, false, statics_at(alloc, versions), sights)
-}
-
-fn push_sight(
-    position: Option<usize>,
-    behind: bool,
-    seen: Result<Seen, AllocError>,
-    sights: &mut Vec<Sight>,
-) -> Result<(), AllocError> {
-    sights.push(Sight {
-        position,
-        behind,
-        seen: seen?,
-    })?;
-    Ok(())
-}
-
 /// What is seen of a chain, and what is carried.
 #[derive(Drop)]
 pub(crate) struct View {
-    // Of each version that somebody needs, the oldest first.
-    pictures: Vec<Picture>,
+    // What is seen of the versions that somebody needs, the oldest first: at each position and over the gap behind it, and the static row last.
+    sights: Vec<Sight>,
+    // How many versions that are.
+    needed: usize,
+    // The newest of them.
+    newest: usize,
     // At each position of the universe whether it is carried.
     carried: Vec<bool>,
 }
@@ -101,11 +45,16 @@ impl View {
         chain: &Chain,
     ) -> Result<Self, AllocError> {
         let mut view = View {
-            pictures: Vec::new(alloc),
+            sights: Vec::new(alloc),
+            needed: 0,
+            newest: 0,
             carried: Vec::new(alloc),
         };
-        view.fill(alloc, universe, chain)?;
-        Ok(view)
+        let filled = view.fill(alloc, universe, chain);
+        match filled {
+            Ok(()) => Ok(view),
+            Err(error) => Err(error),
+        }
     }
 
     fn fill(
@@ -114,13 +63,52 @@ impl View {
         universe: &Universe,
         chain: &Chain,
     ) -> Result<(), AllocError> {
-        push_pictures(alloc, universe, chain, &mut self.pictures)?;
+        for number in 0..chain.versions.len() {
+            if chain.is_needed(number) {
+                let versions = upto(chain.versions.as_slice(), number);
+                push_sights(alloc, universe, versions, &mut self.sights)?;
+                self.needed = self.needed.saturating_add(1);
+                self.newest = versions.len();
+            }
+        }
         if chain.attached && !chain.versions.is_empty() {
-            let reach = chain.place(alloc)?;
-            return push_carried(alloc, universe, chain, &reach, &mut self.carried);
+            push_carried(alloc, universe, chain, &mut self.carried)?;
         }
         Ok(())
     }
+}
+
+// What is seen of the last of these versions.
+fn push_sights(
+    alloc: Global,
+    universe: &Universe,
+    versions: &[PlainVersion],
+    sights: &mut Vec<Sight>,
+) -> Result<(), AllocError> {
+    let version = versions.len();
+    for (number, x) in universe.all.iter().enumerate() {
+        let at = seen_at(alloc, versions, x, Side::On);
+        push_sight(version, Some(number), false, at, sights)?;
+        let gap = seen_at(alloc, versions, x, Side::Behind);
+        push_sight(version, Some(number), true, gap, sights)?;
+    }
+    push_sight(version, None, false, statics_at(alloc, versions), sights)
+}
+
+fn push_sight(
+    version: usize,
+    position: Option<usize>,
+    behind: bool,
+    seen: Result<Seen, AllocError>,
+    sights: &mut Vec<Sight>,
+) -> Result<(), AllocError> {
+    sights.push(Sight {
+        version,
+        position,
+        behind,
+        seen: seen?,
+    })?;
+    Ok(())
 }
 
 /// What is seen and what is carried before a step against what is behind it.
@@ -135,8 +123,8 @@ pub(crate) fn check_view(
         &history.universe,
         history.chain.kind,
         step.effect,
-        before.pictures.as_slice(),
-        now.pictures.as_slice(),
+        before,
+        now,
         tally,
     );
     if step.carries {
@@ -149,32 +137,23 @@ fn check_effect(
     universe: &Universe,
     kind: ChainKind,
     effect: Effect,
-    before: &[Picture],
-    now: &[Picture],
+    before: &View,
+    now: &View,
     tally: &mut Tally,
 ) {
     if let Effect::Open = effect {
         return;
     }
     tally.expect(
-        before.len() == now.len(),
+        before.needed == now.needed,
         "the versions that are needed stay",
     );
-    let mut left = now.len();
-    for (old, new) in before.iter().zip(now.iter()) {
-        left = left.saturating_sub(1);
-        for (was, is) in old.sights.iter().zip(new.sights.iter()) {
-            tally.expect(
-                keeps(
-                    kind,
-                    effect,
-                    left == 0 && is_filled(universe, effect, is),
-                    was,
-                    is,
-                ),
-                "what a step does not touch stays",
-            );
-        }
+    for (was, is) in before.sights.iter().zip(now.sights.iter()) {
+        let filled = is.version == now.newest && is_filled(universe, effect, is);
+        tally.expect(
+            keeps(kind, effect, filled, was, is),
+            "what a step does not touch stays",
+        );
     }
 }
 
@@ -212,28 +191,25 @@ fn push_carried(
     alloc: Global,
     universe: &Universe,
     chain: &Chain,
-    reach: &Option<Place>,
     carried: &mut Vec<bool>,
 ) -> Result<(), AllocError> {
     for x in &universe.all {
-        carried.push(is_carried(alloc, chain, reach, x)?)?;
+        carried.push(is_carried(alloc, chain, x)?)?;
     }
     Ok(())
 }
 
-fn is_carried(
-    alloc: Global,
-    chain: &Chain,
-    reach: &Option<Place>,
-    x: &Pos,
-) -> Result<bool, AllocError> {
+fn is_carried(alloc: Global, chain: &Chain, x: &Pos) -> Result<bool, AllocError> {
     let all = chain.versions.as_slice();
     let pinned = match chain.snapshot_version() {
         Some(number) => upto(all, number),
         None => all,
     };
     let before = is_known_at(alloc, chain.kind, pinned, x)?;
-    let over = !is_reached(reach, x) || is_known_at(alloc, chain.kind, all, x)?;
+    if !is_reached(chain.place(), x) {
+        return Ok(before);
+    }
+    let over = is_known_at(alloc, chain.kind, all, x)?;
     Ok(before && over)
 }
 

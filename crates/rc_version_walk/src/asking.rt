@@ -18,9 +18,10 @@ use std::slice::from_ref;
 
 // The row that bytes spell; an empty one where they spell none.
 fn row_in(alloc: Global, code: &[u8]) -> Result<Row, AllocError> {
-    match read_row(alloc, code)? {
-        Some((row, _size)) => Ok(row),
-        None => Ok(Row::empty(alloc)),
+    match read_row(alloc, code) {
+        Ok(Some((row, _size))) => Ok(row),
+        Ok(None) => Ok(Row::empty(alloc)),
+        Err(error) => Err(error),
     }
 }
 
@@ -93,40 +94,41 @@ fn is_seen(mark: Mark, row: &Row, seen: &Seen) -> bool {
     is_same_flag(mark.flag, seen.flag) && mark.tomb == seen.tomb && is_same_row(row, &seen.row)
 }
 
-// At a position or behind it, where a mark and a row say this.
-fn ask_row(
-    alloc: Global,
+// At a place, where a mark and a row say this.
+fn ask_place(
     mark: Mark,
-    row: &Row,
-    plain: &PlainVersion,
-    x: &Pos,
-    side: Side,
+    row: &Result<Row, AllocError>,
+    plain: &Result<Seen, AllocError>,
+    place: &'static str,
     tally: &mut Tally,
-) -> Result<(), AllocError> {
-    let wanted = seen_at(alloc, from_ref(plain), x, side)?;
-    tally.expect(is_seen(mark, row, &wanted), place_of(side));
-    Ok(())
-}
-
-// Where that is.
-fn place_of(side: Side) -> &'static str {
-    match side {
-        Side::On => "at a position",
-        Side::Behind => "behind a position",
+) {
+    match (row, plain) {
+        (Ok(row), Ok(plain)) => tally.expect(is_seen(mark, row, plain), place),
+        _ => tally.lacking = true,
     }
 }
 
-// The same where no row is said.
-fn ask_mark(
+// At a position or behind it, where a mark and a row say this.
+fn ask_side(
     alloc: Global,
     mark: Mark,
+    row: &Result<Row, AllocError>,
     plain: &PlainVersion,
     x: &Pos,
     side: Side,
     tally: &mut Tally,
-) -> Result<(), AllocError> {
-    let row = Row::empty(alloc);
-    ask_row(alloc, mark, &row, plain, x, side, tally)
+) {
+    let place = match side {
+        Side::On => "at a position",
+        Side::Behind => "behind a position",
+    };
+    ask_place(
+        mark,
+        row,
+        &seen_at(alloc, from_ref(plain), x, side),
+        place,
+        tally,
+    );
 }
 
 // At the position of an entry.
@@ -137,61 +139,53 @@ fn ask_entry(
     plain: &PlainVersion,
     x: &Pos,
     tally: &mut Tally,
-) -> Result<(), AllocError>
+)
     requires { IsSomeEntry region.now e }
 {
     let (at, _gap) = marks(region, e);
-    let row = row_of(alloc, region, e)?;
-    ask_row(alloc, at, &row, plain, x, Side::On, tally)
+    ask_side(
+        alloc,
+        at,
+        &row_of(alloc, region, e),
+        plain,
+        x,
+        Side::On,
+        tally,
+    );
 }
 
-// At a position and behind it.
+// At a position and behind it, beside no row where no entry stands.
 fn ask_at(
     alloc: Global,
     region: &Region<SEGMENT>,
     v: Ref,
+    none: &Result<Row, AllocError>,
     plain: &PlainVersion,
     x: &Pos,
     tally: &mut Tally,
-) -> Result<(), AllocError>
+)
     requires { IsSomeVersion region.now v }
 {
     let (here, next) = around(region, v, x);
     let behind = said_before(region, next);
-    ask_mark(alloc, behind, plain, x, Side::Behind, tally)?;
+    ask_side(alloc, behind, none, plain, x, Side::Behind, tally);
     match here {
         Some(e) => ask_entry(alloc, region, e, plain, x, tally),
-        None => ask_mark(alloc, behind, plain, x, Side::On, tally),
+        None => ask_side(alloc, behind, none, plain, x, Side::On, tally),
     }
 }
 
 // At the static row, where a flag and a row say this.
-fn is_static(
-    alloc: Global,
-    flag: Flag,
-    row: &Row,
-    plain: &PlainVersion,
-    tally: &mut Tally,
-) -> Result<(), AllocError> {
-    let wanted = statics_at(alloc, from_ref(plain))?;
-    let mark = Mark { flag, tomb: None };
-    tally.expect(is_seen(mark, row, &wanted), "at the static row");
-    Ok(())
-}
-
-// At the static row.
 fn ask_static(
     alloc: Global,
-    region: &Region<SEGMENT>,
-    v: Ref,
     flag: Flag,
+    row: &Result<Row, AllocError>,
     plain: &PlainVersion,
     tally: &mut Tally,
-) -> Result<(), AllocError>
-    requires { IsSomeVersion region.now v }
-{
-    let row = static_row(alloc, region, v)?;
-    is_static(alloc, flag, &row, plain, tally)
+) {
+    let mark = Mark { flag, tomb: None };
+    let wanted = statics_at(alloc, from_ref(plain));
+    ask_place(mark, row, &wanted, "at the static row", tally);
 }
 
 // At the head and the static row.
@@ -201,13 +195,19 @@ fn ask_head(
     v: Ref,
     plain: &PlainVersion,
     tally: &mut Tally,
-) -> Result<(), AllocError>
+)
     requires { IsSomeVersion region.now v }
 {
     let head = head_of(region, v);
     let same = head.partition_tombstone == plain.pt && head.phase == plain.phase;
     tally.expect(same, "at the head");
-    ask_static(alloc, region, v, head.static_flag, plain, tally)
+    ask_static(
+        alloc,
+        head.static_flag,
+        &static_row(alloc, region, v),
+        plain,
+        tally,
+    );
 }
 
 /// Asks the version that the first of two slots names and the plain one at each of these positions, behind it, and at the head and the static row.
@@ -219,13 +219,13 @@ pub(crate) fn ask(
     plain: &PlainVersion,
     positions: &[Pos],
     tally: &mut Tally,
-) -> Result<(), AllocError>
+)
     requires { IsPair this other region.now }
 {
     let v = version_in(region, this, other);
-    ask_head(alloc, region, v, plain, tally)?;
+    ask_head(alloc, region, v, plain, tally);
+    let none = Ok(Row::empty(alloc));
     for x in positions {
-        ask_at(alloc, region, v, plain, x, tally)?;
+        ask_at(alloc, region, v, &none, plain, x, tally);
     }
-    Ok(())
 }

@@ -23,15 +23,20 @@ pub(crate) struct Both {
     plain: PlainPair,
 }
 
-/// Versions of an end dummy each.
+/// Versions of an end dummy each in the region, and plain ones that have none yet.
 pub(crate) fn begin(alloc: Global) -> Result<Both, AllocError> {
-    with_plain(alloc, Pair::open(alloc)?)
+    Ok(Both {
+        pair: Pair::open(alloc)?,
+        plain: PlainPair::bare(alloc),
+    })
 }
 
-// With the plain ones.
-fn with_plain(alloc: Global, pair: Pair) -> Result<Both, AllocError> {
-    let plain = PlainPair::new(alloc)?;
-    Ok(Both { pair, plain })
+// Which call was made, where there was memory for the plain one.
+fn told(kind: &'static str, made: Result<(), AllocError>) -> Result<&'static str, AllocError> {
+    match made {
+        Ok(()) => Ok(kind),
+        Err(error) => Err(error),
+    }
 }
 
 // The code of a row.
@@ -45,19 +50,19 @@ fn code_of(alloc: Global, row: &Row) -> Result<Vec<u8>, AllocError>
 }
 
 impl Both {
+    /// The plain versions get an end dummy each.
+    pub(crate) fn start(&mut self, alloc: Global) -> Result<(), AllocError> {
+        self.plain.start(alloc)
+    }
+
     /// How much was moved.
     pub(crate) fn moves(&self) -> Moves {
         self.pair.moves()
     }
 
     /// Asks what all of them say.
-    pub(crate) fn ask(
-        &self,
-        alloc: Global,
-        positions: &[Pos],
-        tally: &mut Tally,
-    ) -> Result<(), AllocError> {
-        self.pair.ask(alloc, &self.plain, positions, tally)
+    pub(crate) fn ask(&self, alloc: Global, positions: &[Pos], tally: &mut Tally) {
+        self.pair.ask(alloc, &self.plain, positions, tally);
     }
 
     /// The second version is the first one from now on.
@@ -78,8 +83,7 @@ impl Both {
         if !self.pair.split(x) {
             return Ok("no room");
         }
-        self.plain.split(alloc, x)?;
-        Ok("split")
+        told("split", self.plain.split(alloc, x))
     }
 
     /// `split_like`.
@@ -91,8 +95,7 @@ impl Both {
         if !self.pair.split_like(x) {
             return Ok("no room");
         }
-        self.plain.split_like(alloc, x)?;
-        Ok("split_like")
+        told("split_like", self.plain.split_like(alloc, x))
     }
 
     /// `join_row`, at the key of a row's position.
@@ -105,11 +108,11 @@ impl Both {
         requires place { KeyFits x.now.prefix }
         requires row { RowFits row.now }
     {
-        if !self.put_row(alloc, x, row)? {
-            return Ok("no room");
+        match self.put_row(alloc, x, row) {
+            Ok(true) => told("join_row", self.plain.join_row(alloc, x, row)),
+            Ok(false) => Ok("no room"),
+            Err(error) => Err(error),
         }
-        self.plain.join_row(alloc, x, row)?;
-        Ok("join_row")
     }
 
     // In the region.
@@ -135,8 +138,7 @@ impl Both {
         if !self.put_range(from, to, tomb) {
             return Ok("no room");
         }
-        self.plain.join_range(alloc, from, to, tomb)?;
-        Ok("join_range")
+        told("join_range", self.plain.join_range(alloc, from, to, tomb))
     }
 
     // In the region.
@@ -155,8 +157,7 @@ impl Both {
         if !self.pair.join_like(x) {
             return Ok("nothing to do");
         }
-        self.plain.join_like(alloc, x)?;
-        Ok("join_like, of an entry")
+        told("join_like, of an entry", self.plain.join_like(alloc, x))
     }
 
     /// `join_like`, with its static row.
@@ -164,8 +165,10 @@ impl Both {
         if !self.pair.join_static_like() {
             return Ok("nothing to do");
         }
-        self.plain.join_static_like(alloc)?;
-        Ok("join_like, of a static row")
+        told(
+            "join_like, of a static row",
+            self.plain.join_static_like(alloc),
+        )
     }
 
     /// `join_pt`.
@@ -207,11 +210,11 @@ impl Both {
     ) -> Result<&'static str, AllocError>
         requires { RowFits row.now }
     {
-        if !self.put_static(alloc, row, flag)? {
-            return Ok("no room");
+        match self.put_static(alloc, row, flag) {
+            Ok(true) => told("set_static", self.plain.set_static(alloc, row, flag)),
+            Ok(false) => Ok("no room"),
+            Err(error) => Err(error),
         }
-        self.plain.set_static(alloc, row, flag)?;
-        Ok("set_static")
     }
 
     // In the region.
@@ -257,8 +260,10 @@ impl Both {
         if !self.pair.renew(flag, pt, phase) {
             return Ok("no room");
         }
-        self.plain.renew(alloc, flag, pt, phase)?;
-        Ok("new_version and free_version")
+        told(
+            "new_version and free_version",
+            self.plain.renew(alloc, flag, pt, phase),
+        )
     }
 
     // As many entries are taken out as may stand before the end dummy, where they are there.

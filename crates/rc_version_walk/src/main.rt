@@ -31,12 +31,13 @@ fn walk_calls(
     positions: &[Pos],
     tally: &mut Tally,
 ) -> Result<Moves, AllocError> {
+    walk.both.start(alloc)?;
     for _ in 0..CALLS {
         if tally.differs.is_none() {
             walk.step(alloc, positions, tally)?;
         }
     }
-    Ok(walk.moves())
+    Ok(walk.both.moves())
 }
 
 // A walk, asked at these positions.

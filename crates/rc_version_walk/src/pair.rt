@@ -105,7 +105,7 @@ impl Pair {
         plain: &PlainPair,
         positions: &[Pos],
         tally: &mut Tally,
-    ) -> Result<(), AllocError> {
+    ) {
         ask(
             alloc,
             &self.region,
@@ -114,7 +114,7 @@ impl Pair {
             &plain.first,
             positions,
             tally,
-        )?;
+        );
         ask(
             alloc,
             &self.region,
@@ -123,7 +123,7 @@ impl Pair {
             &plain.second,
             positions,
             tally,
-        )
+        );
     }
 
     /// `split`.

@@ -18,9 +18,18 @@ pub(crate) struct PlainPair {
 }
 
 impl PlainPair {
-    /// Two versions of an end dummy each.
-    pub(crate) fn new(alloc: Global) -> Result<Self, AllocError> {
-        with_second(alloc, new_version(alloc, Flag::Known, None, 0)?)
+    /// Two versions without entries.
+    pub(crate) fn bare(alloc: Global) -> Self {
+        PlainPair {
+            first: bare_version(alloc, Flag::Known, None, 0),
+            second: bare_version(alloc, Flag::Inherit, None, 1),
+        }
+    }
+
+    /// They get an end dummy each.
+    pub(crate) fn start(&mut self, alloc: Global) -> Result<(), AllocError> {
+        push_end(alloc, &mut self.first)?;
+        push_end(alloc, &mut self.second)
     }
 
     /// The second one is the first one from now on.
@@ -105,15 +114,9 @@ impl PlainPair {
         pt: Option<Tomb>,
         phase: u64,
     ) -> Result<(), AllocError> {
-        self.first = new_version(alloc, flag, pt, phase)?;
-        Ok(())
+        self.first = bare_version(alloc, flag, pt, phase);
+        push_end(alloc, &mut self.first)
     }
-}
-
-// With a second one.
-fn with_second(alloc: Global, first: PlainVersion) -> Result<PlainPair, AllocError> {
-    let second = new_version(alloc, Flag::Inherit, None, 1)?;
-    Ok(PlainPair { first, second })
 }
 
 // The entries of a version are these from now on; without memory they stay.
@@ -164,22 +167,21 @@ fn end_dummy(alloc: Global, flag: Flag) -> Entry {
     }
 }
 
-// A version of its end dummy alone.
-fn new_version(
-    alloc: Global,
-    flag: Flag,
-    pt: Option<Tomb>,
-    phase: u64,
-) -> Result<PlainVersion, AllocError> {
-    let mut entries = Vec::new(alloc);
-    entries.push(end_dummy(alloc, flag))?;
-    Ok(PlainVersion {
+// A version without entries.
+fn bare_version(alloc: Global, flag: Flag, pt: Option<Tomb>, phase: u64) -> PlainVersion {
+    PlainVersion {
         pt,
         statics: None,
         static_flag: flag,
-        entries,
+        entries: Vec::new(alloc),
         phase,
-    })
+    }
+}
+
+// Its end dummy, with the flag of its static row.
+fn push_end(alloc: Global, version: &mut PlainVersion) -> Result<(), AllocError> {
+    version.entries.push(end_dummy(alloc, version.static_flag))?;
+    Ok(())
 }
 
 // The entry at a position, or else the next one behind it.

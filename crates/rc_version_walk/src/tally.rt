@@ -31,6 +31,8 @@ pub(crate) struct Tally {
     pub(crate) places: u64,
     /// Where both differ, first.
     pub(crate) differs: Option<&'static str>,
+    /// Whether memory was wanted at a place, and there was none.
+    pub(crate) lacking: bool,
 }
 
 impl Tally {
@@ -44,6 +46,7 @@ impl Tally {
             calls,
             places: 0,
             differs: None,
+            lacking: false,
         })
     }
 
@@ -70,6 +73,15 @@ impl Tally {
         self.places = self.places.saturating_add(1);
         if !alike && self.differs.is_none() {
             self.differs = Some(what);
+        }
+    }
+
+    /// Whether there was memory at each place.
+    pub(crate) fn told(&self) -> Result<(), AllocError> {
+        if self.lacking {
+            Err(AllocError)
+        } else {
+            Ok(())
         }
     }
 }

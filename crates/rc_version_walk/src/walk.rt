@@ -4,7 +4,6 @@ ghost use Rattle.rc_rowcode.specs.Spelling.{KeyFits};
 
 use crate::both::{Both, begin as begin_both};
 use crate::chance::Chance;
-use crate::pair::Moves;
 use crate::space::{some_flag, some_place, some_position, some_row, some_tomb, some_tomb_or_none};
 use crate::tally::Tally;
 use rc_position::Pos;
@@ -14,11 +13,12 @@ use std::cmp::Ordering;
 /// Two versions, and the chance that says what is done to them.
 #[derive(Drop)]
 pub(crate) struct Walk {
-    both: Both,
+    /// The versions.
+    pub(crate) both: Both,
     chance: Chance,
 }
 
-/// Versions of an end dummy each.
+/// Versions of an end dummy each, the plain ones once they are started.
 pub(crate) fn begin(alloc: Global, seed: u64) -> Result<Walk, AllocError> {
     Ok(Walk {
         both: begin_both(alloc)?,
@@ -27,11 +27,6 @@ pub(crate) fn begin(alloc: Global, seed: u64) -> Result<Walk, AllocError> {
 }
 
 impl Walk {
-    /// How much was moved.
-    pub(crate) fn moves(&self) -> Moves {
-        self.both.moves()
-    }
-
     /// One call more, on one version or the other; then both are asked.
     pub(crate) fn step(
         &mut self,
@@ -43,7 +38,8 @@ impl Walk {
         let kind = self.some_call(alloc)?;
         tally.count(kind);
         self.some_move();
-        self.both.ask(alloc, positions, tally)
+        self.both.ask(alloc, positions, tally);
+        tally.told()
     }
 
     // The next call is on the other version, or on the same.
