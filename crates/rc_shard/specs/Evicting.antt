@@ -1,10 +1,11 @@
 -- What the row cache gives up where it is told to.
 --     AreFirstEvicted    the first objects of the recency list went
 --     IsEvictedAsTold    so the shard does where an eviction is answered
---     IsLostAsTold       by which commands nothing is lost
+--     LosesNothing       nothing is evicted, and no fill skipped
+--     IsLostAsTold       by which commands that is so
 use Rattle.std.specs.Prelude.{◌≡◌, ⊤, ℕ, List, length, min}
 use Rattle.rc_lines.specs.declared.commands.Command.{Command}
-use Rattle.rc_lines.specs.declared.commands.Command.TheVariants.{Close, Compact, Evict, Put, Read, Stats}
+use Rattle.rc_lines.specs.declared.commands.Command.TheVariants.{Close, Compact, Evict, Nothing, Put, Read, SetSchema, Stats}
 use Rattle.rc_memory.specs.Memory.{Member, Memory}
 use Rattle.rc_lookup.specs.Evictions.{AreEvicted}
 
@@ -17,12 +18,18 @@ abbrev pub IsEvictedAsTold : Command → Memory → Memory → Type 0
 IsEvictedAsTold (Evict count) old new = AreFirstEvicted count old new
 IsEvictedAsTold command old new = ⊤
 
--- A read, a closing, a compaction and figures evict nothing; these, a write and an eviction that is told skip no fill.
+-- nothing was evicted, and no fill was skipped
+abbrev pub LosesNothing : Memory → Memory → Type 0
+LosesNothing old new = (new.counts.evicted ≡ old.counts.evicted) × (new.counts.skipped ≡ old.counts.skipped)
+
+-- A schema line, a read, a closing, a compaction, figures and an empty line lose nothing; a write and an eviction that is told skip no fill.
 abbrev pub IsLostAsTold : Command → Memory → Memory → Type 0
+IsLostAsTold Nothing old new = LosesNothing old new
+IsLostAsTold (SetSchema schema) old new = LosesNothing old new
 IsLostAsTold (Put w) old new = new.counts.skipped ≡ old.counts.skipped
+IsLostAsTold (Read id count) old new = LosesNothing old new
+IsLostAsTold (Close id) old new = LosesNothing old new
 IsLostAsTold (Evict count) old new = new.counts.skipped ≡ old.counts.skipped
-IsLostAsTold (Read id count) old new = (new.counts.evicted ≡ old.counts.evicted) × (new.counts.skipped ≡ old.counts.skipped)
-IsLostAsTold (Close id) old new = (new.counts.evicted ≡ old.counts.evicted) × (new.counts.skipped ≡ old.counts.skipped)
-IsLostAsTold (Compact count) old new = (new.counts.evicted ≡ old.counts.evicted) × (new.counts.skipped ≡ old.counts.skipped)
-IsLostAsTold Stats old new = (new.counts.evicted ≡ old.counts.evicted) × (new.counts.skipped ≡ old.counts.skipped)
+IsLostAsTold (Compact count) old new = LosesNothing old new
+IsLostAsTold Stats old new = LosesNothing old new
 IsLostAsTold command old new = ⊤

@@ -22,6 +22,7 @@ raised-is more n h = min-eq_left h
 
 -- ---- evictions
 
+-- what evictions make of the counts: evictions rise, by at least one where something went and the count was below its most; skips stay
 pub record IsRaised (went : List Member) (c d : Counts) : Type 0 where
   pub up : c.evicted ≤ d.evicted
   pub top : d.evicted ≤ most_counted

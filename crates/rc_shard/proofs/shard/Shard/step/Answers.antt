@@ -206,6 +206,12 @@ returns-in-Compact-clause-stays g c = λ none key spared whole.
     left-known c.args.self.now new c.requires.stands.1.cached.are c.known.ensures.told (record { cache = refl; left = (c.compact.ensures.kept c.args.self.now.folder.schema).cache.left }) none key whole
 
 -- by which commands nothing is lost
+pub returns-in-Nothing-clause-loses : goal.returns-in-Nothing-clause-loses
+returns-in-Nothing-clause-loses g c = rw (c.in-Nothing.is) (refl, refl)
+
+pub returns-in-SetSchema-clause-loses : goal.returns-in-SetSchema-clause-loses
+returns-in-SetSchema-clause-loses g c = rw (c.in-SetSchema.is) (refl, refl)
+
 pub returns-in-Put-clause-loses : goal.returns-in-Put-clause-loses
 returns-in-Put-clause-loses g c = rw (c.in-Put.is) c.put.ensures.skips
 
