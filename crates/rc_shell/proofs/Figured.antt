@@ -1,5 +1,6 @@
 -- What `stats` lines go by, as the machine is opened and after a command.
 use Rattle.std.proofs.Common.{◌≡◌, ◌+◌, ◌-◌, ◌^◌, ◌&&◌, ℕ, Bool, true, false, cond, not, min, nat_eq, inl, inr, Option, Some, None, IfSome, Ok, sym, ap, subst, ◌∙◌, arith}
+use Rattle.std.specs.Prelude.{if◌then◌else◌}
 use Rattle.std.specs.Option.{option_or}
 use Rattle.std.proofs.Math.Nat.{min-eq_left, min-eq_right, zero-min}
 use Rattle.std.proofs.lemmas.Bool.{cases_lt}
@@ -10,7 +11,7 @@ use Rattle.rc_machine.specs.State.{State}
 use Rattle.rc_folder.specs.Counting.{AreCounted, AreFresh, NoneFell, answered_of, figures_in, is_answered, one_more}
 use Rattle.rc_folder.specs.declared.counts.Answered.{Answered}
 use Rattle.rc_shell.specs.Late.{GoesBy}
-use Rattle.rc_shell.specs.Step.{MayBeTold, Serving, TellsFigures, Statistics, nothing_told, one_if, told_after}
+use Rattle.rc_shell.specs.Step.{MayBeTold, Serving, TellsFigures, Statistics, nothing_told, told_after}
 
 pub goes-fresh : (opened : ℕ) (figures : ℕ → Figures) → AreFresh opened figures → GoesBy opened (nothing_told opened) figures
 goes-fresh opened figures f = record {
@@ -28,19 +29,16 @@ min-more most a t e = elim (cases_lt t most) [
 more-min : (a t : ℕ) → a ≡ min t (2 ^ 64 - 1) → one_more a ≡ min (t + 1) (2 ^ 64 - 1)
 more-min a t e = min-more (2 ^ 64 - 1) a t e
 
-same-min : (a t : ℕ) → a ≡ min t (2 ^ 64 - 1) → a ≡ min (t + 0) (2 ^ 64 - 1)
-same-min a t e = e ∙ ap (λ n. min n (2 ^ 64 - 1)) (omega arith)
-
 -- the counts after a reply, by whether it answers and whether the store was asked for nothing
-hits-counted : (answers same : Bool) (a : Answered) (t : ℕ) → a.hits ≡ min t (2 ^ 64 - 1) → (cond answers (cond same (record a { hits = one_more a.hits }) (record a { misses = one_more a.misses })) a).hits ≡ min (t + one_if (answers && same)) (2 ^ 64 - 1)
+hits-counted : (answers same : Bool) (a : Answered) (t : ℕ) → a.hits ≡ min t (2 ^ 64 - 1) → (cond answers (cond same (record a { hits = one_more a.hits }) (record a { misses = one_more a.misses })) a).hits ≡ min (if answers && same then t + 1 else t) (2 ^ 64 - 1)
 hits-counted true true a t e = more-min a.hits t e
-hits-counted true false a t e = same-min a.hits t e
-hits-counted false same a t e = same-min a.hits t e
+hits-counted true false a t e = e
+hits-counted false same a t e = e
 
-misses-counted : (answers same : Bool) (a : Answered) (t : ℕ) → a.misses ≡ min t (2 ^ 64 - 1) → (cond answers (cond same (record a { hits = one_more a.hits }) (record a { misses = one_more a.misses })) a).misses ≡ min (t + one_if (answers && not same)) (2 ^ 64 - 1)
-misses-counted true true a t e = same-min a.misses t e
+misses-counted : (answers same : Bool) (a : Answered) (t : ℕ) → a.misses ≡ min t (2 ^ 64 - 1) → (cond answers (cond same (record a { hits = one_more a.hits }) (record a { misses = one_more a.misses })) a).misses ≡ min (if answers && not same then t + 1 else t) (2 ^ 64 - 1)
+misses-counted true true a t e = e
 misses-counted true false a t e = more-min a.misses t e
-misses-counted false same a t e = same-min a.misses t e
+misses-counted false same a t e = e
 
 fell-then : (a b c : Figures) → NoneFell a b → NoneFell b c → NoneFell a c
 fell-then a b c f g = record {

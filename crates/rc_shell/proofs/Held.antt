@@ -4,7 +4,8 @@ use Rattle.rc_shell.specs.calls.Feed.{Answered, PushedText, PushedEnding, Pushed
 use Rattle.rc_shell.specs.Status.{status_at}
 use Rattle.rc_shell.specs.calls.Status.{stop_by}
 use Rattle.rc_lines.specs.laws.{long_lines_are_cut}
-use Rattle.rc_shell.specs.Step.{Moment, Stage, Waiting, Serving, StoreView, LineStep, StageStep, MayAsk, EndsRun, EndsRunAt, LeavesStore, TellsFigures, meaning_at, served as meaning_served, told_after}
+use Rattle.rc_machine.specs.Built.{served as meaning_served}
+use Rattle.rc_shell.specs.Step.{Moment, Stage, Waiting, Serving, StoreView, LineStep, StageStep, MayAsk, EndsRun, EndsRunAt, LeavesStore, TellsFigures, meaning_at, told_after}
 use Rattle.rc_shell.specs.declared.status.Status.{Status}
 use Rattle.rc_shell.specs.declared.status.Ending.{Ending}
 use Rattle.rc_shell.specs.declared.status.Stop.{Stop}

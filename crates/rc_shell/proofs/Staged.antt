@@ -26,7 +26,8 @@ use Rattle.rc_lines.specs.declared.commands.Figures.{Figures}
 use Rattle.rc_folder.specs.Counting.{AreCounted, AreFresh}
 use Rattle.rc_folder.specs.Tabled.{Tabled}
 use Rattle.rc_shell.specs.calls.Feed.{Answered}
-use Rattle.rc_shell.specs.Step.{Moment, Stage, StoreView, Waiting, Serving, StageStep, LineStep, EndsRun, EndsRunAt, LeavesStore, MayAsk, MayHaveAsked, TellsFigures, Statistics, files_of, meaning_at, nothing_told, served, start_moment, bad_table, tells_fault, told_after}
+use Rattle.rc_machine.specs.Built.{served}
+use Rattle.rc_shell.specs.Step.{Moment, Stage, StoreView, Waiting, Serving, StageStep, LineStep, EndsRun, EndsRunAt, LeavesStore, MayAsk, MayHaveAsked, TellsFigures, Statistics, files_of, meaning_at, nothing_told, start_moment, bad_table, tells_fault, told_after}
 use Rattle.rc_shell.specs.Late.{GoesBy, IsBudget, KeepsMoment, ServesAt, WaitsAt}
 use Rattle.rc_shell.specs.calls.Late.{schema_set}
 use Rattle.rc_shell.specs.calls.Standing.{MayClose}

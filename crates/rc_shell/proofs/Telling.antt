@@ -1,5 +1,6 @@
 -- What was told last over lines.
 use Rattle.std.proofs.Common.{◌≡◌, ◌+◌, ◌-◌, ◌^◌, ◌≤◌, ◌&&◌, ℕ, suc, Bool, true, false, not, nat_eq, List, [], ◌∷◌, length, Option, Some, None, IfSome, Result, Ok, Err, refl, sym, ap, subst, ◌∙◌, arith}
+use Rattle.std.specs.Prelude.{if◌then◌else◌}
 use Rattle.std.specs.Option.{option_or}
 use Rattle.std.proofs.Math.Nat.{min-le_left}
 use Rattle.rc_lines.specs.declared.commands.Command.{Command}
@@ -13,7 +14,7 @@ use Rattle.rc_machine.specs.laws.Changes.{Change, Reads, Writes, Seals, Begins, 
 use Rattle.rc_folder.specs.Counting.{figures_in, is_answered}
 use Rattle.rc_shell.specs.Holding.{IsWithinBounds, OfLines}
 use Rattle.rc_shell.specs.Run.{Answers}
-use Rattle.rc_shell.specs.Step.{LineStep, MayBeTold, Moment, Stage, StageStep, StoreView, TellsFigures, Statistics, Waiting, Serving, meaning_at, one_if, start_moment, told_after}
+use Rattle.rc_shell.specs.Step.{LineStep, MayBeTold, Moment, Stage, StageStep, StoreView, TellsFigures, Statistics, Waiting, Serving, meaning_at, start_moment, told_after}
 use Rattle.rc_shell.specs.Words.{segments_of}
 use Rattle.rc_shell.specs.declared.status.Status.{Status}
 use Rattle.rc_shell.specs.declared.words.Words.{Words}
@@ -74,7 +75,7 @@ same_told n segments bound more asked asked' told few h = record {
   last = telling_more n segments bound more told.last h.last;
 }
 
-one-more : (answers same : Bool) (h m n : ℕ) → h + m ≤ n → (h + one_if (answers && same)) + (m + one_if (answers && not same)) ≤ suc n
+one-more : (answers same : Bool) (h m n : ℕ) → h + m ≤ n → (if answers && same then h + 1 else h) + (if answers && not same then m + 1 else m) ≤ suc n
 one-more true true h m n le = omega (arith, le)
 one-more true false h m n le = omega (arith, le)
 one-more false same h m n le = omega (arith, le)
