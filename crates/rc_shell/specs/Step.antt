@@ -121,11 +121,6 @@ pub record MayBeTold (asked : ℕ) (told : Statistics) (figures : Figures) : Typ
   pub asks : figures.asks ≡ asked - told.opened
   pub none_fell : IfSome told.last (λ last. NoneFell last figures)
 
--- so of the figures of a line's reply, where that is one to `stats`
-abbrev pub TellsFigures : Result Command Refusal → Option Reply → ℕ → Statistics → Type 0
-TellsFigures (Ok command) (Some reply) asks told = IfSome (figures_in command reply) (MayBeTold asks told)
-TellsFigures meaning reply asks told = ⊤
-
 -- whether a reply's text tells a fault of the store
 abbrev pub tells_fault : List ℕ → Bool
 tells_fault text = is_word text (refusal_text ReadFault) || is_word text (refusal_text WriteFault)
@@ -139,7 +134,7 @@ pub record LineStep (old : Moment) (line text : List ℕ) (new : Moment) : Type 
   pub asks : (bound : ℕ) × MayAsk old.stage (meaning_at old.stage line) bound × (new.bound ≡ old.bound + bound) × (new.asks ≤ old.asks + bound)
   pub segments : new.segments ≡ old.segments
   pub told : new.told ≡ told_after old.stage (meaning_at old.stage line) reply old.asks new.asks old.told
-  pub figures : TellsFigures (meaning_at old.stage line) reply old.asks old.told
+  pub figures : (command : Command) (answer : Reply) → meaning_at old.stage line ≡ Ok command → reply ≡ Some answer → IfSome (figures_in command answer) (MayBeTold old.asks old.told)
 
 -- the last line where a table is bad: it is damaged at an offset, or has another schema
 unfoldable pub bad_table : ℕ → Option ℕ → List ℕ

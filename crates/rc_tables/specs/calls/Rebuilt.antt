@@ -44,8 +44,8 @@ rows_among (frag.Change x tomb ∷ fs) = rows_among fs
 rows_among (frag.End ∷ fs) = rows_among fs
 
 -- something was written of each row
-abbrev pub AllWritten : List (List Comp × Row) → Type 0
-AllWritten rows = All (λ e. e.1 ≢ empty_row) rows
+abbrev pub NoRowIsEmpty : List (List Comp × Row) → Type 0
+NoRowIsEmpty rows = All (λ e. e.1 ≢ empty_row) rows
 
 -- the changes among fragments
 abbrev pub changes_among : List Frag → List (Pos × Option Tomb)
