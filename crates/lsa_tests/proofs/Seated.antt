@@ -12,14 +12,14 @@ use Rattle.lsa_region.specs.Region.{View, body, link_of, slots_of, IsEnd, IsWell
 use Rattle.lsa_region.specs.laws.Refs.{refs_decided}
 use Rattle.lsa_path.specs.laws.Members.{member-cases, member-first, member-later}
 use Rattle.lsa_path.specs.laws.Renamed.{some-there}
-use Rattle.lsa_tests.specs.Seated.{IsThere, AreKept, AreSlotsKept, AreSlots, HasSlots, AreOnce}
+use Rattle.lsa_tests.specs.Seated.{IsSeated, AllStaySeated, AreSlotsKept, AreSlots, HasSlots, AreSeatedOnce}
 
 clash : (o : Option (Kind × List ℕ)) → o ≡ None → IsSome o → ⊥
 clash None none some = cc some
 clash (Some b) none some = cc none
 
 module _ (v w : View) where
-  pub same-kept : SameObjects v w → AreKept v w
+  pub same-kept : SameObjects v w → AllStaySeated v w
   same-kept same (Obj r field) h = subst IsSome (sym (same.bodies r)) h
   same-kept same (Slot s) h = same.ends (Slot s) h
 
@@ -53,11 +53,11 @@ named-there v well s r field is = some-there _ (body v r) (well.ends (Slot s) (O
 
 -- ---- objects of which none is named twice
 
-pub none-once : (v : View) (refs : List Ref) → refs ≡ [] → AreOnce v refs
-none-once v refs none = subst (AreOnce v) (sym none) tt
+pub none-once : (v : View) (refs : List Ref) → refs ≡ [] → AreSeatedOnce v refs
+none-once v refs none = subst (AreSeatedOnce v) (sym none) tt
 
 module _ (v w : View) (r : Ref) where
-  without : ((q : Ref) → q ≢ r → IsSome (body v q) → IsSome (body w q)) → (refs : List Ref) → (Contains refs r → ⊥) → AreOnce v refs → AreOnce w refs
+  without : ((q : Ref) → q ≢ r → IsSome (body v q) → IsSome (body w q)) → (refs : List Ref) → (Contains refs r → ⊥) → AreSeatedOnce v refs → AreSeatedOnce w refs
   without others [] out h = tt
   without others (x ∷ refs) out h = (
     others x (λ e. out (subst (Contains (x ∷ refs)) e (member-first x refs))) h.0,
@@ -66,11 +66,11 @@ module _ (v w : View) (r : Ref) where
   )
 
   -- the first of them is freed
-  pub once-freed : ((q : Ref) → q ≢ r → IsSome (body v q) → IsSome (body w q)) → (refs : List Ref) → AreOnce v (r ∷ refs) → AreOnce w refs
+  pub once-freed : ((q : Ref) → q ≢ r → IsSome (body v q) → IsSome (body w q)) → (refs : List Ref) → AreSeatedOnce v (r ∷ refs) → AreSeatedOnce w refs
   once-freed others refs h = without others refs h.1 h.2
 
   -- one more is made
-  pub once-added : (kind : Kind) (bytes : List ℕ) → IsAdded v w r kind bytes → (refs : List Ref) → AreOnce v refs → AreOnce w (refs ++ (r ∷ []))
+  pub once-added : (kind : Kind) (bytes : List ℕ) → IsAdded v w r kind bytes → (refs : List Ref) → AreSeatedOnce v refs → AreSeatedOnce w (refs ++ (r ∷ []))
   once-added kind bytes added [] h = (ap is_some added.here, (λ on. absurd (omega (arith, on.1))), tt)
   once-added kind bytes added (x ∷ refs) h =
       let other : x ≢ r = λ e. clash (body v x) (ap (body v) e ∙ added.fresh) h.0 in

@@ -7,13 +7,13 @@ use Rattle.lsa_region.specs.declared.end.End.TheVariants.{Obj, Slot}
 use Rattle.lsa_region.specs.Region.{View, body, slots_of, IsEnd}
 
 -- the object of the end is there, or the root slot is
-abbrev pub IsThere : View → End → Type 0
-IsThere v (Obj r field) = IsSome (body v r)
-IsThere v (Slot root) = IsEnd v (Slot root)
+abbrev pub IsSeated : View → End → Type 0
+IsSeated v (Obj r field) = IsSome (body v r)
+IsSeated v (Slot root) = IsEnd v (Slot root)
 
 -- each object and each root slot that was there is there
-abbrev pub AreKept : View → View → Type 0
-AreKept old new = (e : End) → IsThere old e → IsThere new e
+abbrev pub AllStaySeated : View → View → Type 0
+AllStaySeated old new = (e : End) → IsSeated old e → IsSeated new e
 
 -- each root slot that was there is there
 abbrev pub AreSlotsKept : View → View → Type 0
@@ -29,6 +29,6 @@ pub record HasSlots (v : View) (slots : List Root) : Type 0 where
   pub all : (slots_of v).there ≡ length slots
 
 -- each of these objects is there, and none is named twice
-abbrev pub AreOnce : View → List Ref → Type 0
-AreOnce v [] = ⊤
-AreOnce v (r ∷ refs) = IsSome (body v r) × (Contains refs r → ⊥) × AreOnce v refs
+abbrev pub AreSeatedOnce : View → List Ref → Type 0
+AreSeatedOnce v [] = ⊤
+AreSeatedOnce v (r ∷ refs) = IsSome (body v r) × (Contains refs r → ⊥) × AreSeatedOnce v refs

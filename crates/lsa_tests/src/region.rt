@@ -4,7 +4,7 @@ ghost use Rattle.lsa_pool.specs.Room.{spare_of};
 ghost use Rattle.lsa_store.specs.declared.place.Ref.{Ref as Name};
 ghost use Rattle.lsa_region.specs.Ends.{same_ref, same_end};
 ghost use Rattle.lsa_region.specs.Region.{body, link_of, slots_of, IsEnd, IsRootAdded};
-ghost use Rattle.lsa_tests.specs.Seated.{IsThere, AreKept, AreSlotsKept, AreSlots, HasSlots, AreOnce};
+ghost use Rattle.lsa_tests.specs.Seated.{IsSeated, AllStaySeated, AreSlotsKept, AreSlots, HasSlots, AreSeatedOnce};
 
 use lsa_kinds::{Kind, links};
 use lsa_region::{End, Ref, Region, Root};
@@ -34,7 +34,7 @@ fn same_object(r: Ref, s: Ref) -> bool
 
 // Whether the end of an object that is there, or of a slot that is, is there.
 fn is_end(region: &Region<4096>, end: End) -> bool
-    requires { IsThere region.now end }
+    requires { IsSeated region.now end }
     ensures yes { result ≡ true → IsEnd region.now end }
     ensures no { result ≡ false → IsEnd region.now end → ⊥ }
 {
@@ -55,7 +55,7 @@ fn has_link(region: &Region<4096>, r: Ref, field: u8) -> bool
 
 // Whether the end is not there or names nothing.
 fn is_unset(region: &Region<4096>, end: End) -> bool
-    requires { IsThere region.now end }
+    requires { IsSeated region.now end }
     ensures { result ≡ true → link_of region.now end ≡ None }
 {
     region.known();
@@ -101,8 +101,8 @@ fn make_dummies(
     dummies: &mut Vec<Ref>,
     count: u64,
 ) -> Result<bool, AllocError>
-    requires { AreOnce region.old dummies.old.items }
-    ensures { IfOk result (λ _. AreOnce region.new dummies.new.items) }
+    requires { AreSeatedOnce region.old dummies.old.items }
+    ensures { IfOk result (λ _. AreSeatedOnce region.new dummies.new.items) }
 {
     for _ in 0..count {
         if region.spare() < 88 {
@@ -116,23 +116,23 @@ fn make_dummies(
 // Makes a dummy, which is none of those.
 fn make_dummy(region: &mut Region<4096>, _dummies: &[Ref]) -> Ref
     requires room { 88 ≤ spare_of 4096 region.old.usages }
-    requires once { AreOnce region.old _dummies.now }
-    ensures { AreOnce region.new (_dummies.now ++ (result ∷ [])) }
+    requires once { AreSeatedOnce region.old _dummies.now }
+    ensures { AreSeatedOnce region.new (_dummies.now ++ (result ∷ [])) }
 {
     region.alloc_obj(Kind::Dummy, &DUMMY)
 }
 
 // Frees the first of some dummies; false where a link of it is set.
 fn free_front(region: &mut Region<4096>, dummy: Ref, _rest: &[Ref]) -> bool
-    requires { AreOnce region.old (dummy ∷ _rest.now) }
-    ensures { AreOnce region.new _rest.now }
+    requires { AreSeatedOnce region.old (dummy ∷ _rest.now) }
+    ensures { AreSeatedOnce region.new _rest.now }
 {
     free(region, dummy)
 }
 
 // Frees the first so many dummies; false where a link of one is set, or there are fewer.
 fn free_first(region: &mut Region<4096>, dummies: &[Ref], count: u64) -> bool
-    requires { AreOnce region.old dummies.now }
+    requires { AreSeatedOnce region.old dummies.now }
 {
     let mut left = dummies;
     for _ in 0..count {
@@ -155,8 +155,8 @@ fn fill_up(
     count: u64,
     spare: usize,
 ) -> Result<(), AllocError>
-    requires { AreOnce region.old dummies.old.items }
-    ensures { IfOk result (λ _. AreOnce region.new dummies.new.items) }
+    requires { AreSeatedOnce region.old dummies.old.items }
+    ensures { IfOk result (λ _. AreSeatedOnce region.new dummies.new.items) }
 {
     assert!(rt; make_dummies(region, dummies, count)?);
     assert_eq!(rt; region.spare(), spare);
@@ -165,14 +165,14 @@ fn fill_up(
 
 // No dummies.
 fn no_dummies(_region: &Region<4096>, alloc: Global) -> Vec<Ref>
-    ensures { AreOnce _region.now result.items }
+    ensures { AreSeatedOnce _region.now result.items }
 {
     Vec::new(alloc)
 }
 
 // 93 dummies, of which 46 fill a segment.
 fn fill(rt: &impl Abort, region: &mut Region<4096>, alloc: Global) -> Result<Vec<Ref>, AllocError>
-    ensures { IfOk result (λ v. AreOnce region.new v.items) }
+    ensures { IfOk result (λ v. AreSeatedOnce region.new v.items) }
 {
     let mut dummies = no_dummies(region, alloc);
     fill_up(rt, region, &mut dummies, 1, 10664)?;
@@ -306,7 +306,7 @@ fn is_mate(named: Option<End>, end: End) -> bool {
 
 // What an end names.
 fn mate(region: &Region<4096>, end: End) -> Option<End>
-    requires { IsThere region.now end }
+    requires { IsSeated region.now end }
 {
     if is_end(region, end) {
         region.link_of(end)
@@ -317,9 +317,9 @@ fn mate(region: &Region<4096>, end: End) -> Option<End>
 
 // Links two ends, where they can be.
 fn tie(region: &mut Region<4096>, first: End, second: End) -> bool
-    requires first { IsThere region.old first }
-    requires second { IsThere region.old second }
-    ensures { AreKept region.old region.new }
+    requires first { IsSeated region.old first }
+    requires second { IsSeated region.old second }
+    ensures { AllStaySeated region.old region.new }
 {
     if !is_end(region, first) || !is_end(region, second) || same(first, second) {
         return false;
@@ -336,8 +336,8 @@ fn tie(region: &mut Region<4096>, first: End, second: End) -> bool
 
 // Parts an end that is set, and gives its mate.
 fn untie(region: &mut Region<4096>, end: End) -> Option<End>
-    requires { IsThere region.old end }
-    ensures { AreKept region.old region.new }
+    requires { IsSeated region.old end }
+    ensures { AllStaySeated region.old region.new }
 {
     if !is_end(region, end) {
         return None;
@@ -350,9 +350,9 @@ fn untie(region: &mut Region<4096>, end: End) -> Option<End>
 
 // Lets two ends change places, where they can.
 fn trade(region: &mut Region<4096>, first: End, second: End) -> bool
-    requires first { IsThere region.old first }
-    requires second { IsThere region.old second }
-    ensures { AreKept region.old region.new }
+    requires first { IsSeated region.old first }
+    requires second { IsSeated region.old second }
+    ensures { AllStaySeated region.old region.new }
 {
     if !is_end(region, first) || !is_end(region, second) || same(first, second) {
         return false;
@@ -420,7 +420,7 @@ fn seated(region: &Region<4096>, slots: &[Root], seat: usize) -> Option<Ref>
 // A link by its number among the 400.
 fn end_at(region: &Region<4096>, slots: &[Root], link: usize) -> Option<End>
     requires { AreSlots region.now slots.now }
-    ensures { IfSome result (IsThere region.now) }
+    ensures { IfSome result (IsSeated region.now) }
 {
     match seated(region, slots, link / 4) {
         Some(r) => Some(End::Obj(r, (link % 4) as u8)),

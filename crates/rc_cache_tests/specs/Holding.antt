@@ -11,5 +11,5 @@ abbrev pub HaveSome : {S : ℕ} → SchemaValue → Unstored S → Type 0
 HaveSome schema u = (writes : List Write) × (later : List Write) × HaveWrites schema u writes later
 
 -- each chain that was there is as it was; others may have come to be
-abbrev pub AreStillThere : Memory → Memory → Type 0
-AreStillThere old new = (id : ℕ) (k : KeptChain) → chain_at old id ≡ Some k → chain_at new id ≡ Some k
+abbrev pub ChainsStay : Memory → Memory → Type 0
+ChainsStay old new = (id : ℕ) (k : KeptChain) → chain_at old id ≡ Some k → chain_at new id ≡ Some k

@@ -2,7 +2,7 @@
 ghost use Rattle.std.specs.Prelude.{[]};
 ghost use Rattle.rc_schema.specs.SchemaValue.{SchemaValue};
 ghost use Rattle.rc_unstored.specs.Memtables.{HaveWrites};
-ghost use Rattle.rc_cache_tests.specs.Holding.{AreStillThere, HaveSome};
+ghost use Rattle.rc_cache_tests.specs.Holding.{ChainsStay, HaveSome};
 
 use crate::unstored::{put_row, sealed_rows};
 use rc_chain::{ChainKind, Chains};
@@ -14,7 +14,7 @@ use std::test::Fail;
 
 // Makes a chain of a cache, of 152 bytes in two objects, where there is room for it.
 fn make_one(chains: &mut Chains<4096>) -> Result<(), AllocError>
-    ensures { AreStillThere chains.old chains.new }
+    ensures { ChainsStay chains.old chains.new }
 {
     if chains.region().spare() < 152 {
         return Ok(());
@@ -25,7 +25,7 @@ fn make_one(chains: &mut Chains<4096>) -> Result<(), AllocError>
 
 // Makes so many of them, as long as there is room.
 fn fill(chains: &mut Chains<4096>, count: u64) -> Result<(), AllocError>
-    ensures { AreStillThere chains.old chains.new }
+    ensures { ChainsStay chains.old chains.new }
 {
     for _round in 0..count {
         make_one(chains)?;

@@ -9,6 +9,7 @@ use Rattle.std.specs.FinMap as finite
 use Rattle.std.specs.FinMap.{find, is_sorted}
 use Rattle.std.specs.FinMap.Entries.{below_all}
 use Rattle.std.proofs.Math.Seq.{split_at}
+use Rattle.std.proofs.lemmas.List.Sums.{sum_by-cons}
 use Rattle.std.proofs.lemmas.List.{length-map, map-append}
 use Rattle.std.proofs.lemmas.List.Elements.{All-append, All-cons, All-head, All-tail}
 use Rattle.rc_cell.specs.laws.ByColumn.{same_column}
@@ -192,7 +193,7 @@ content_at told all i is h =
 
 checks_drop : (files : List (List ℕ)) (i : ℕ) → i < length files → checks_of (drop i files) ≡ (length (get_or files i []) / 2048 + 2) + checks_of (drop (suc i) files)
 checks_drop [] i h = absurd (omega (arith, h))
-checks_drop (bytes ∷ files) zero h = refl
+checks_drop (bytes ∷ files) zero h = sum_by-cons (λ (bytes : List ℕ). length bytes / 2048 + 2) bytes files
 checks_drop (bytes ∷ files) (suc i) h = checks_drop files i (omega (arith, h))
 
 -- what is asked for in checking one file is what the files from it on may ask for more than those behind it

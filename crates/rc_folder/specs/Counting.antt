@@ -1,11 +1,12 @@
 -- What a machine counts, and the figures that it tells.
 --     is_answered     a command read from a partition, and was answered
---     counted         the counts of answers after one more
+--     counted_answer  the counts of answers after one more
 --     figures_in      the figures that a reply tells
 --     NoneFell        no counter fell
 --     AreFresh        the figures of a machine that was opened just now
 --     AreCounted      what a command does to the figures
 use Rattle.std.specs.Prelude.{◌≡◌, ◌+◌, ◌-◌, ◌≤◌, ◌^◌, ℕ, Bool, true, false, cond, min, nat_eq, Option, Some, None, IfSome}
+use Rattle.rc_outside.specs.Faults.{raised}
 use Rattle.rc_lines.specs.declared.commands.Command.{Command}
 use Rattle.rc_lines.specs.declared.commands.Command.TheVariants.{OpenRead, Read, Stats}
 use Rattle.rc_lines.specs.declared.commands.Figures.{Figures}
@@ -19,14 +20,10 @@ is_answered (OpenRead id key slice) replies.Fine = true
 is_answered (Read id count) (replies.Given lines more) = true
 is_answered command reply = false
 
--- a count raised by one, which stays at its greatest value
-abbrev pub one_more : ℕ → ℕ
-one_more n = min (n + 1) (2 ^ 64 - 1)
-
 -- the counts after a reply to a command for which the store was asked so often before and after it: a hit where an answer asked the store for nothing, else a miss
-abbrev pub counted : Command → Reply → ℕ → ℕ → Answered → Answered
-counted command reply before after a =
-    cond (is_answered command reply) (cond (nat_eq before after) (record a { hits = one_more a.hits }) (record a { misses = one_more a.misses })) a
+abbrev pub counted_answer : Command → Reply → ℕ → ℕ → Answered → Answered
+counted_answer command reply before after a =
+    cond (is_answered command reply) (cond (nat_eq before after) (record a { hits = raised a.hits }) (record a { misses = raised a.misses })) a
 
 -- the counts of answers among figures
 abbrev pub answered_of : Figures → Answered
@@ -53,7 +50,7 @@ pub record AreFresh (opened : ℕ) (figures : ℕ → Figures) : Type 0 where
 
 -- A command was answered, before and after which the store had been asked so often: its answer is counted, no counter fell, asks are counted from where they were, and `stats` tells the figures as they stood.
 pub record AreCounted (command : Command) (reply : Reply) (before after : ℕ) (old new : ℕ → Figures) : Type 0 where
-  pub answered : answered_of (new after) ≡ counted command reply before after (answered_of (old before))
+  pub answered : answered_of (new after) ≡ counted_answer command reply before after (answered_of (old before))
   pub none_fell : NoneFell (old before) (new after)
   pub asks : (n : ℕ) → (new n).asks ≡ (old n).asks
   pub told : IfSome (figures_in command reply) (λ figures. figures ≡ old before)

@@ -21,7 +21,7 @@ IsNextNumber infos None = last_number < next_number (list_map (λ i. i.number) i
 IsNextNumber infos (Some n) = (n ≡ next_number (list_map (λ i. i.number) infos)) × (n ≤ last_number)
 
 -- partitions stand in one more table, of number n: its file is the text of the table, and what its directory lists is known behind the others
-pub record IsAdded (files : Option Files) (f : Tabled) (n : ℕ) (parts : List Partition) (files' : Option Files) (f' : Tabled) : Type 0 where
+pub record IsTableAdded (files : Option Files) (f : Tabled) (n : ℕ) (parts : List Partition) (files' : Option Files) (f' : Tabled) : Type 0 where
   pub is_table : IsTable (text (whole_table f.schema parts)) f.schema parts
   pub written : files' ≡ with_file files n (text (whole_table f.schema parts))
   pub keeps : f' ≡ record f { infos = f.infos ++ info_of n f.schema parts ∷ [] }

@@ -1,7 +1,7 @@
 //! What a machine counts of its answers.
 ghost use Rattle.std.specs.Prelude.{◌≡◌, ◌≤◌};
 ghost use Rattle.rc_lines.specs.declared.commands.Command.{Command as Asked};
-ghost use Rattle.rc_folder.specs.Counting.{counted, is_answered};
+ghost use Rattle.rc_folder.specs.Counting.{counted_answer, is_answered};
 
 use rc_lines::{Command, Reply};
 
@@ -25,7 +25,7 @@ impl Answered {
 
     /// Counts a reply to a command, before and after which the store had been asked so often: no count is less then.
     pub fn count(self, command: &Command, reply: &Reply, before: u64, after: u64) -> Self
-        ensures counted { result ≡ counted command.now reply.now before after self }
+        ensures counted { result ≡ counted_answer command.now reply.now before after self }
         ensures hits { self.hits ≤ result.hits }
         ensures misses { self.misses ≤ result.misses }
     {

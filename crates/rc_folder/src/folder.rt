@@ -19,7 +19,7 @@ ghost use Rattle.rc_machine.specs.Standing.{IsOver};
 ghost use Rattle.rc_machine.specs.Steps.{IsSaid};
 ghost use Rattle.rc_machine.specs.Serving.{checks_of};
 ghost use Rattle.rc_folder.specs.Opening.{IsOpeningRefused, OnOpenFault};
-ghost use Rattle.rc_folder.specs.Tabled.{IsAdded, IsNextNumber};
+ghost use Rattle.rc_folder.specs.Tabled.{IsTableAdded, IsNextNumber};
 
 use crate::opening::{OpenErr, check_tables};
 use rc_mutation::{Mutation, Partition};
@@ -115,7 +115,7 @@ impl Folder {
         requires fit { PartsFit self.old.schema parts.now }
         requires mutations { All (λ p. IsMutation p.change) parts.now }
         requires fresh { IsNoFile (W.files store.old) number }
-        ensures added { OnOk result (IsAdded (W.files store.old) self.old number parts.now (W.files store.new) self.new) }
+        ensures added { OnOk result (IsTableAdded (W.files store.old) self.old number parts.now (W.files store.new) self.new) }
         ensures refused { OnErr result ((self.new ≡ self.old) × (W.files store.new ≡ W.files store.old)) }
         ensures faults { RisesIfFault OnWriteFault result (W.faults store.old) (W.faults store.new) }
         ensures asks { W.asks store.new ≡ W.asks store.old }

@@ -12,7 +12,7 @@ ghost use Rattle.rc_tfile.specs.TableText.{PartsFit};
 ghost use Rattle.rc_machine.specs.State.{State, unstored};
 ghost use Rattle.rc_machine.specs.Standing.{IsOver};
 ghost use Rattle.rc_machine.specs.Steps.{with_table};
-ghost use Rattle.rc_folder.specs.Tabled.{Tabled, IsAdded, IsNextNumber};
+ghost use Rattle.rc_folder.specs.Tabled.{Tabled, IsTableAdded, IsNextNumber};
 
 /// Where the machine stands over a folder, the parts of the first of the writes that stand in no table are partitions that a table of
 /// the schema can hold, as `Folder::add` needs them.
@@ -31,6 +31,6 @@ pub fn next_number_is_no_files()
 /// writes stand in that table.
 pub fn machine_stands_over_one_more()
     ensures { (told : Option Files) (told' : Option Files) (f : Tabled) (f' : Tabled) (n : ℕ) (m : State) (parts : List Partition) →
-        IsOver told f.schema f.infos m → IsNextNumber f.infos (Some n) → IsAdded told f n parts told' f' → All (λ p. IsMutation p.change) parts →
+        IsOver told f.schema f.infos m → IsNextNumber f.infos (Some n) → IsTableAdded told f n parts told' f' → All (λ p. IsMutation p.change) parts →
         IsOver told' f'.schema f'.infos (with_table m parts) }
 {}

@@ -5,9 +5,9 @@ use Rattle.rc_cell.specs.declared.writes.Tomb.{Tomb}
 use Rattle.rc_schema.specs.SchemaValue.{are_distinct_by}
 use Rattle.rc_spelling.specs.Numbers.{count_of}
 use Rattle.rc_spelling.specs.Words.{is_word, each_of}
-use Rattle.rc_lines.specs.declared.commands.Command.TheVariants.{Read, Close, Flush, FlushBegin, FlushStep, Evict, Compact, Clean, Stats}
+use Rattle.rc_lines.specs.declared.commands.Command.TheVariants.{OpenRead, Read, Close, Flush, FlushBegin, FlushStep, Evict, Compact, Clean, Stats}
 use Rattle.rc_lines.specs.Parts.{stamp_of, time_of, key_of, pieces_of, cell_set, cell_unset, from_limit, to_limit}
-use Rattle.rc_lines.specs.UnderSchema.{Saying, row_written, statics_written, range_written, partition_written, slice_opened}
+use Rattle.rc_lines.specs.UnderSchema.{Saying, row_written, statics_written, on_slice, range_written, partition_written}
 
 -- what words say, where they are of a form
 abbrev pub Form : Type 0
@@ -52,8 +52,8 @@ forms =
     ∷ this_word (codes "delpart") (word_as key_of (λ key. tomb_words (λ dead. end_of_line (partition_written key dead))))
     ∷ this_word (codes "static") (word_as key_of (λ key. word_as stamp_of (λ ts. columns_to_end 1 (cell_set ts) (statics_written key))))
     ∷ this_word (codes "unstatic") (word_as key_of (λ key. tomb_words (λ dead. columns_to_end 1 (cell_unset dead) (statics_written key))))
-    ∷ this_word (codes "open") (count_word (λ id. word_as key_of (λ key. end_of_line (slice_opened id key ([], true) ([], true)))))
-    ∷ this_word (codes "open") (count_word (λ id. word_as key_of (λ key. word_as from_limit (λ from. word_as to_limit (λ to. end_of_line (slice_opened id key from to))))))
+    ∷ this_word (codes "open") (count_word (λ id. word_as key_of (λ key. end_of_line (on_slice key ([], true) ([], true) (OpenRead id key)))))
+    ∷ this_word (codes "open") (count_word (λ id. word_as key_of (λ key. word_as from_limit (λ from. word_as to_limit (λ to. end_of_line (on_slice key from to (OpenRead id key)))))))
     ∷ this_word (codes "read") (count_word (λ id. count_word (λ n. end_of_line (λ schema. Ok (Read id n)))))
     ∷ this_word (codes "close") (count_word (λ id. end_of_line (λ schema. Ok (Close id))))
     ∷ this_word (codes "flush") (end_of_line (λ schema. Ok Flush))

@@ -1,7 +1,7 @@
 -- What the parts of a line mean under a schema: keys, slices and columns, and the commands that are made of them, or the first cause why they are refused.
 use Rattle.std.specs.Prelude.{ℕ, ℤ, Bool, ◌&&◌, ◌==◌, nat_le, List, [], ◌∷◌, length, Option, Some, None, Result, Ok, Err, if◌then◌else◌, option_and_then}
 use Rattle.std.specs.List.{filter_map, find, list_all, range_with_len, zip}
-use Rattle.std.specs.Option.{option_map, is_some}
+use Rattle.std.specs.Option.{option_map, option_map_or, is_some}
 use Rattle.std.specs.Ordering.{is_lt}
 use Rattle.rc_cell.specs.declared.rows.Row.{Row}
 use Rattle.rc_cell.specs.declared.writes.Cell.{Cell}
@@ -20,7 +20,7 @@ use Rattle.rc_schema.specs.Checks.{column_of, is_short, has_short_value}
 use Rattle.rc_spelling.specs.Numbers.{signed_of}
 use Rattle.rc_spelling.specs.Words.{is_word}
 use Rattle.rc_lines.specs.declared.commands.Command.{Command}
-use Rattle.rc_lines.specs.declared.commands.Command.TheVariants.{Put, OpenRead}
+use Rattle.rc_lines.specs.declared.commands.Command.TheVariants.{Put}
 use Rattle.rc_lines.specs.declared.commands.Refusal.{Refusal}
 use Rattle.rc_lines.specs.declared.commands.Refusal.TheVariants.{WrongKey, UnknownColumn, TooLong}
 
@@ -58,8 +58,7 @@ Saying = SchemaValue → Result Command Refusal
 
 -- a value, or a refusal where there is none
 abbrev pub need : {A : Type 0} → Option A → Refusal → (A → Result Command Refusal) → Result Command Refusal
-need None refusal more = Err refusal
-need (Some value) refusal more = more value
+need found refusal more = option_map_or more found (Err refusal)
 
 -- a write of these parts
 abbrev pub put_parts : List ℕ → Option Tomb → Row → List (List Comp × Row) → List Piece → Command
@@ -78,19 +77,16 @@ statics_written key cells schema =
     need (columns_of schema.statics cells) UnknownColumn (λ found.
     if is_partition_key key && list_all (λ e. has_short_value e.1) found then Ok (put_parts key None (record { marker = None; tomb = None; cells = found }) [] []) else Err TooLong)
 
+-- a command on the rows of a slice, between two limits
+unfoldable pub on_slice : List ℕ → List (List ℕ) × Bool → List (List ℕ) × Bool → (Slice → Command) → Saying
+on_slice key from to command schema =
+    need (slice_of from to schema.ck) WrongKey (λ slice.
+    if is_partition_key key && (list_all is_short slice.from.prefix && list_all is_short slice.to.prefix) then Ok (command slice) else Err TooLong)
+
 -- a range tombstone is written
 unfoldable pub range_written : List ℕ → List (List ℕ) × Bool → List (List ℕ) × Bool → Tomb → Saying
-range_written key from to tomb schema =
-    need (slice_of from to schema.ck) WrongKey (λ slice.
-    if is_partition_key key && (list_all is_short slice.from.prefix && list_all is_short slice.to.prefix)
-    then Ok (put_parts key None empty_row [] (record { from = slice.from; to = slice.to; tomb = tomb } ∷ [])) else Err TooLong)
+range_written key from to tomb = on_slice key from to (λ slice. put_parts key None empty_row [] (record { from = slice.from; to = slice.to; tomb = tomb } ∷ []))
 
 -- the partition tombstone is written
 unfoldable pub partition_written : List ℕ → Tomb → Saying
 partition_written key tomb schema = if is_partition_key key then Ok (put_parts key (Some tomb) empty_row [] []) else Err TooLong
-
--- a reader is opened
-unfoldable pub slice_opened : ℕ → List ℕ → List (List ℕ) × Bool → List (List ℕ) × Bool → Saying
-slice_opened id key from to schema =
-    need (slice_of from to schema.ck) WrongKey (λ slice.
-    if is_partition_key key && (list_all is_short slice.from.prefix && list_all is_short slice.to.prefix) then Ok (OpenRead id key slice) else Err TooLong)

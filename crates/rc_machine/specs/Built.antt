@@ -1,11 +1,18 @@
--- Which commands the program serves today: the one place that says so. A line of any other command is a bad line.
-use Rattle.std.specs.Prelude.{Bool, true, false}
+-- Which commands the program serves today: the one place that says so.
+use Rattle.std.specs.Prelude.{Bool, Result, Ok, Err}
+use Rattle.std.specs.Result.{is_ok}
 use Rattle.rc_lines.specs.declared.commands.Command.{Command}
 use Rattle.rc_lines.specs.declared.commands.Command.TheVariants.{FlushBegin, FlushStep, Clean}
+use Rattle.rc_lines.specs.declared.commands.Refusal.{Refusal}
+use Rattle.rc_lines.specs.declared.commands.Refusal.TheVariants.{BadLine}
 
--- whether a command is served: all but those of a flush in steps and of cleaning
+-- a line of a command that is not served, one of a flush in steps or of cleaning, is a bad line
+abbrev pub served : Result Command Refusal → Result Command Refusal
+served (Ok FlushBegin) = Err BadLine
+served (Ok (FlushStep count)) = Err BadLine
+served (Ok (Clean count)) = Err BadLine
+served meaning = meaning
+
+-- whether a command is served
 abbrev pub is_built : Command → Bool
-is_built FlushBegin = false
-is_built (FlushStep count) = false
-is_built (Clean count) = false
-is_built command = true
+is_built command = is_ok (served (Ok command))

@@ -2,7 +2,7 @@
 --     Takes, Stops      it takes a step, or memory runs out
 --     most_asks          how many ranges it may ask for
 --     FaultsAreCounted      a reply that tells a fault comes only where the store failed
-use Rattle.std.specs.Prelude.{◌≡◌, ℕ, ◌+◌, ◌*◌, ◌/◌, ◌≤◌, ◌⊎◌, List, [], ◌∷◌, length, Option, Result, IfOk, ⊤}
+use Rattle.std.specs.Prelude.{◌≡◌, ℕ, ◌+◌, ◌*◌, ◌/◌, ◌≤◌, ◌⊎◌, List, [], ◌∷◌, length, sum_by, Option, Result, IfOk, ⊤}
 use Rattle.rc_outside.specs.Files.{Files}
 use Rattle.rc_outside.specs.Faults.{Rose}
 use Rattle.rc_lines.specs.declared.commands.Command.{Command}
@@ -34,8 +34,7 @@ module _ {Kept : Type 0} (Stands : Option Files → Kept → State → Type 0) w
 
 -- at most so many ranges of files with these bytes are asked for while each is checked
 abbrev pub checks_of : List (List ℕ) → ℕ
-checks_of [] = 0
-checks_of (bytes ∷ files) = (length bytes / 2048 + 2) + checks_of files
+checks_of files = sum_by (λ bytes. length bytes / 2048 + 2) files
 
 -- at most so many ranges of table files are asked for by a command: an open reads its partition from each table that lists it
 abbrev pub most_asks : List TableInfo → Command → ℕ

@@ -6,7 +6,6 @@
 use Rattle.std.specs.Prelude.{ℕ, ◌-◌, ◌==◌, Bool, false, List, [], ◌++◌, drop, map as list_map, Option}
 use Rattle.std.specs.Map.{lookup}
 use Rattle.rc_outside.specs.Files.{Files}
-use Rattle.rc_position.specs.declared.positions.Pos.{Pos}
 use Rattle.rc_position.specs.declared.slices.Slice.{Slice}
 use Rattle.rc_schema.specs.SchemaValue.{SchemaValue}
 use Rattle.rc_mutation.specs.declared.mutations.Mutation.{Mutation}
@@ -20,18 +19,15 @@ use Rattle.rc_tfile.specs.declared.info.TableInfo.{TableInfo}
 abbrev pub Table : Type 0
 Table = ℕ × List Partition
 
--- an open reader: the partition and the slice that it reads; the position up to which it has given its lines; what the tables say of the partition; the
--- changes to it that stood in no table when it was opened, how many tables listed it then, and the number of the first write that stood in none, if there
--- was one; and how many lines of its answer are settled: none before its first read; then those that it was asked for, and the one behind them, since each
--- read tells whether there are more
+-- an open reader: the partition and the slice that it reads; what the tables say of the partition; the changes to it that stood in no table when it was
+-- opened, and how many tables listed it then; and how many lines of its answer are settled: none before its first read; then those that it was asked for,
+-- and the one behind them, since each read tells whether there are more
 pub record Reader : Type 0 where
   pub key : List ℕ
   pub slice : Slice
-  pub place : Pos
   pub said : List Mutation
   pub writes : List Mutation
   pub listed : ℕ
-  pub first : Option ℕ
   pub settled : ℕ
 
 -- the machine's state: the schema; the budget of memory, in segments; the folder's files, where the store tells them; the tables, by

@@ -7,22 +7,17 @@ use Rattle.std.specs.Prelude.{◌≡◌, ◌≢◌, ℕ, ◌+◌, ◌-◌, ◌�
 use Rattle.std.specs.List.{filter, AllByRecursion}
 use Rattle.std.specs.Map.{set_value}
 use Rattle.std.specs.FinMap as map
-use Rattle.rc_position.specs.declared.positions.Pos.{Pos}
-use Rattle.rc_position.specs.declared.positions.Weight.TheVariants.{After as AfterKey}
 use Rattle.rc_position.specs.declared.slices.Slice.{Slice}
 use Rattle.rc_schema.specs.SchemaValue.{SchemaValue}
 use Rattle.rc_mutation.specs.declared.mutations.Mutation.{Mutation}
 use Rattle.rc_mutation.specs.declared.mutations.Partition.{Partition}
 use Rattle.rc_mutation.specs.Source.{changes_to}
 use Rattle.rc_mutation.specs.Fragments.{IsParts, units}
-use Rattle.rc_query.specs.declared.lines.OutLine.{OutLine}
-use Rattle.rc_query.specs.declared.lines.OutLine.TheVariants as out_line
 use Rattle.rc_tfile.specs.Before.{text}
 use Rattle.rc_tfile.specs.Info.{info_of}
 use Rattle.rc_tfile.specs.TableText.{whole_table, IsTable}
-use Rattle.rc_stream.specs.declared.streams.StreamErr.TheVariants as stream_err
 use Rattle.rc_tables.specs.Located.{SaysOf}
-use Rattle.rc_tables.specs.Tables.{IsDamageOf, changes_at, listing}
+use Rattle.rc_tables.specs.Tables.{IsDamageAmong, changes_at, listing}
 use Rattle.rc_lines.specs.declared.commands.Command.{Command}
 use Rattle.rc_lines.specs.declared.commands.Command.TheVariants.{Nothing, SetSchema, Put, OpenRead, Read, Close, Flush, FlushBegin, FlushStep, Stats}
 use Rattle.rc_lines.specs.declared.commands.Figures.{Figures}
@@ -71,27 +66,20 @@ IsResaid m r said = (said ≡ r.said) ⊎ ((m.files ≡ None) × MaySay m.schema
 -- known of it, so it is not what it was
 abbrev pub ReadFails : State → List ℕ → Reply → State → Type 0
 ReadFails m key reply new = Refuses m ReadFault reply new
-    ⊎ ((file : ℕ) × (offset : ℕ) × (m.files ≡ None) × IsDamageOf m.schema key m.infos (stream_err.Damaged file offset) × Refuses m (Damaged file offset) reply new)
+    ⊎ ((file : ℕ) × (offset : ℕ) × (m.files ≡ None) × IsDamageAmong m.schema key m.infos file offset × Refuses m (Damaged file offset) reply new)
 
 -- a reader as it is opened, to which the tables say this
 abbrev pub reader_with : State → List ℕ → Slice → List Mutation → Reader
-reader_with m key slice said =
-    record { key = key; slice = slice; place = slice.from; said = said; writes = changes_to key (unstored m); listed = listing key m.infos; first = if m.stored == length m.log then None else Some m.stored; settled = 0 }
+reader_with m key slice said = record { key = key; slice = slice; said = said; writes = changes_to key (unstored m); listed = listing key m.infos; settled = 0 }
 
 -- a reader is opened: its answer is to what the tables say and then the writes that stand in none; or its partition could not be read
 abbrev pub Opens : State → ℕ → List ℕ → Slice → Reply → State → Type 0
 Opens m id key slice reply new =
     ((said : List Mutation) × IsSaid m key said × Does (record m { readers = m.readers ++ (id, reader_with m key slice said) ∷ [] }) reply new) ⊎ ReadFails m key reply new
 
--- the position behind lines that were given, of which the first begin behind x: behind the last row
-abbrev pub position_behind : Pos → List OutLine → Pos
-position_behind x [] = x
-position_behind x (out_line.Static shown ∷ lines) = position_behind x lines
-position_behind x (out_line.Row key shown ∷ lines) = position_behind (record { prefix = key; weight = AfterKey }) lines
-
--- a reader that was asked for its next lines: it stands behind them, or at its slice's end where none are left
+-- a reader that was asked for so many lines: they are settled, and the one behind them
 abbrev pub reader_past : ℕ → Reader → Reader
-reader_past count r = record r { place = if nat_lt count (length (rest_of r)) then position_behind r.place (take count (rest_of r)) else r.slice.to; settled = r.settled - 1 + count + 1 }
+reader_past count r = record r { settled = r.settled - 1 + count + 1 }
 
 -- a reader gives the next lines of its answer to what the tables say now, and whether there are more; or its partition could not be read
 abbrev pub Gives : State → ℕ → ℕ → Reader → Reply → State → Type 0

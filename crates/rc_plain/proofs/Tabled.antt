@@ -17,7 +17,7 @@ use Rattle.rc_folder.specs.laws.Fitting.{sealed_parts_fit}
 use Rattle.rc_folder.specs.laws.Flushing.{flushes, in_time, too_late, is_flushed, later_writes}
 use Rattle.rc_folder.specs.laws.Over.{fresh, over_added, over_let_go}
 use Rattle.rc_plain.specs.Stands.{Keeping, Stands}
-use Rattle.rc_plain.specs.calls.Storing.{sealed_all, tabled, IsTableStored, IsFlushAnswered}
+use Rattle.rc_plain.specs.calls.Storing.{sealed_all, folder_of, IsTableKept, IsFlushKept}
 use Rattle.rc_plain.proofs.Standing.{log_length, stands_sealed}
 
 -- whether something is to be flushed
@@ -52,18 +52,18 @@ stops_sealed files files' k k' same still = λ m s.
 -- ---- a flush that is done
 
 -- what was written is what the state's flush writes
-flushed : (files files' : Option Files) (k k' : Keeping) (m : State) (n : ℕ) (i : IsTableStored files (sealed_all k) n files' k') → Stands files k m → IsFlushed m i.parts
+flushed : (files files' : Option Files) (k k' : Keeping) (m : State) (n : ℕ) (i : IsTableKept files (sealed_all k) n files' k') → Stands files k m → IsFlushed m i.parts
 flushed files files' k k' m n i s =
     let s1 = stands_sealed files k m s in
     is_flushed files k.schema k.infos m (sealed_all k).sealed (sealed_all k).active i.parts s.over s1.log s1.sealed i.of_writes i.added.is_table
 
-stands_stored : (files files' : Option Files) (k k' : Keeping) (m : State) (n : ℕ) (i : IsTableStored files (sealed_all k) n files' k') → Stands files k m → IsNextNumber k.infos (Some n) → Stands files' k' (without_sealed (with_table m i.parts))
+stands_stored : (files files' : Option Files) (k k' : Keeping) (m : State) (n : ℕ) (i : IsTableKept files (sealed_all k) n files' k') → Stands files k m → IsNextNumber k.infos (Some n) → Stands files' k' (without_sealed (with_table m i.parts))
 stands_stored files files' k k' m n i s is =
     let s1 = stands_sealed files k m s in
     let new : State = with_table m i.parts in
     let none : length k'.sealed ≡ 0 = ap (λ (k : Keeping). length k.sealed) i.keeps in
     record {
-      over = over_let_go files' k'.schema k'.infos new (over_added files files' (tabled (sealed_all k)) (tabled k') n m i.parts s.over is i.added i.of_writes.mutations);
+      over = over_let_go files' k'.schema k'.infos new (over_added files files' (folder_of (sealed_all k)) (folder_of k') n m i.parts s.over is i.added i.of_writes.mutations);
       log = ap (λ (k : Keeping). k.sealed ++ k.active) i.keeps ∙ later_writes m (sealed_all k).sealed (sealed_all k).active (sealing m) s1.log s1.sealed;
       sealed = omega (arith, none);
       whole = refl;
@@ -73,7 +73,7 @@ stands_stored files files' k k' m n i s is =
     }
 
 -- the sealed writes stand in the next table
-pub takes_stored : (files files' : Option Files) (k k' : Keeping) (n : ℕ) → 1 ≤ length k.sealed + length k.active → IsNextNumber k.infos (Some n) → IsTableStored files (sealed_all k) n files' k' → Takes Stands files k Flush replies.Fine files' k'
+pub takes_stored : (files files' : Option Files) (k k' : Keeping) (n : ℕ) → 1 ≤ length k.sealed + length k.active → IsNextNumber k.infos (Some n) → IsTableKept files (sealed_all k) n files' k' → Takes Stands files k Flush replies.Fine files' k'
 takes_stored files files' k k' n some is i = λ m s. (
   without_sealed (with_table m i.parts),
   flushes without_sealed m _ _ false false s.whole (some_left files k m s some) (in_time files k.schema k.infos m n s.over is) (inl (i.parts, flushed files files' k k' m n i s, (refl, refl))),
@@ -81,10 +81,10 @@ takes_stored files files' k k' n some is i = λ m s. (
 )
 
 -- what was answered of the table
-pub takes_written : (files files' : Option Files) (k sealed k' : Keeping) (n : ℕ) (reply : Reply) → sealed ≡ sealed_all k → 1 ≤ length k.sealed + length k.active → IsNextNumber k.infos (Some n) → IsFlushAnswered files sealed n files' k' reply
+pub takes_written : (files files' : Option Files) (k sealed k' : Keeping) (n : ℕ) (reply : Reply) → sealed ≡ sealed_all k → 1 ≤ length k.sealed + length k.active → IsNextNumber k.infos (Some n) → IsFlushKept files sealed n files' k' reply
     → Takes Stands files k Flush reply files' k'
 takes_written files files' k sealed k' n reply e some is (inl w) =
-    subst (λ reply. Takes Stands files k Flush reply files' k') (sym w.0) (takes_stored files files' k k' n some is (subst (λ k. IsTableStored files k n files' k') e w.1))
+    subst (λ reply. Takes Stands files k Flush reply files' k') (sym w.0) (takes_stored files files' k k' n some is (subst (λ k. IsTableKept files k n files' k') e w.1))
 takes_written files files' k sealed k' n reply e some is (inr w) =
     subst (λ reply. Takes Stands files k Flush reply files' k') (sym w.0) (takes_write_fault files files' k k' n some is (w.1 ∙ e) w.2)
 

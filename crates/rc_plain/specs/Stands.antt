@@ -38,8 +38,8 @@ pub record Stands (told : Option Files) (k : Keeping) (m : State) : Type 0 where
   pub budget : m.segments ≡ k.segments
 
 -- what it tells of itself, where the store was asked so often: it has no segment and no object, and no cache
-abbrev pub figures_of : Keeping → ℕ → Figures
-figures_of k asks = record {
+abbrev pub plain_figures : Keeping → ℕ → Figures
+plain_figures k asks = record {
   segments = 0;
   free = k.segments;
   objects = 0;

@@ -18,9 +18,9 @@ ghost use Rattle.rc_machine.specs.Serving.{FaultsAreCounted, OnFaulty, Stops, Ta
 ghost use Rattle.rc_folder.specs.Counting.{figures_in};
 ghost use Rattle.rc_folder.specs.Tabled.{IsNextNumber};
 ghost use Rattle.rc_plain.specs.calls.Answering.{IsAnswer};
-ghost use Rattle.rc_plain.specs.Stands.{Stands, figures_of};
+ghost use Rattle.rc_plain.specs.Stands.{Stands, plain_figures};
 ghost use Rattle.rc_plain.specs.calls.Counting.{AreSameCounts};
-ghost use Rattle.rc_plain.specs.calls.Storing.{IsFlushAnswered, sealed_all};
+ghost use Rattle.rc_plain.specs.calls.Storing.{IsFlushKept, sealed_all};
 
 use crate::memtable::Memtable;
 use crate::readers::{Rest, place_of};
@@ -64,13 +64,13 @@ impl Model for Plain {
 
 impl Machine for Plain {
     ghost use Rattle.rc_folder.specs.Tabled.{Tabled};
-    ghost use Rattle.rc_plain.specs.Stands.{Stands, figures_of};
+    ghost use Rattle.rc_plain.specs.Stands.{Stands, plain_figures};
 
     ghost stands = { Stands };
 
     ghost folder = { λ k. record { schema = k.schema; infos = k.infos } };
 
-    ghost figures = { figures_of };
+    ghost figures = { plain_figures };
 
     ghost over = { λ told k m s. s.over };
 
@@ -114,7 +114,7 @@ impl Machine for Plain {
 impl Plain {
     // What it tells of itself, where the store was asked so often: all of its budget is free, and it has no cache.
     fn figures<W: Store>(&self, store: &W) -> Figures
-        ensures { result ≡ figures_of self.now (W.asks store.now) }
+        ensures { result ≡ plain_figures self.now (W.asks store.now) }
     {
         Figures {
             segments: 0,
@@ -148,7 +148,7 @@ impl Plain {
         ensures faults { FaultsAreCounted result (W.faults store.old) (W.faults store.new) }
         ensures asks { W.asks store.new ≤ W.asks store.old + most_asks self.old.infos command.now }
         ensures counts { AreSameCounts self.old self.new }
-        ensures told { IfOk result (λ reply. IfSome (figures_in command.now reply) (λ figures. figures ≡ figures_of self.old (W.asks store.old))) }
+        ensures told { IfOk result (λ reply. IfSome (figures_in command.now reply) (λ figures. figures ≡ plain_figures self.old (W.asks store.old))) }
     {
         match command {
             Command::Nothing => Ok(Reply::Nothing),
@@ -345,7 +345,7 @@ impl Plain {
     ) -> Result<Reply, AllocError>
         requires stands { (m : State) × Stands (W.files store.old) self.old m }
         requires number { IsNextNumber self.old.infos (Some number) }
-        ensures written { IfOk result (IsFlushAnswered (W.files store.old) self.old number (W.files store.new) self.new) }
+        ensures written { IfOk result (IsFlushKept (W.files store.old) self.old number (W.files store.new) self.new) }
         ensures err { OnErr result ((self.new ≡ self.old) × (W.files store.new ≡ W.files store.old)) }
         ensures faults { FaultsAreCounted result (W.faults store.old) (W.faults store.new) }
         ensures asks { W.asks store.new ≡ W.asks store.old }

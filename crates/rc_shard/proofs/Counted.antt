@@ -6,7 +6,7 @@ use Rattle.lsa_pool.specs.Room.{free_count, is_state_free}
 use Rattle.rc_lines.specs.declared.commands.Command.{Command}
 use Rattle.rc_lines.specs.declared.commands.Reply.{Reply}
 use Rattle.rc_lookup.specs.NoMore.{counts-same}
-use Rattle.rc_folder.specs.Counting.{AreCounted, counted, figures_in}
+use Rattle.rc_folder.specs.Counting.{AreCounted, counted_answer, figures_in}
 use Rattle.rc_folder.specs.declared.counts.Answered.{Answered}
 use Rattle.rc_shard.specs.declared.shard.Shard.{Shard}
 use Rattle.rc_shard.specs.Counting.{figures_of}
@@ -25,10 +25,10 @@ pub make-budget : (us : List Usage) (segments budget : ℕ) → budget ≡ segme
 make-budget us segments budget same many = let le : free_count us ≤ length us = count_by-le-length (λ (u : Usage). is_state_free u.state) us in omega (arith, same, many, le)
 
 -- an answer is counted behind a step
-pub are-counted : (command : Command) (reply : Reply) (before after : ℕ) (k mid : Shard) (a : Answered) → CountsStay k mid → a ≡ counted command reply before after mid.answered → mid.answered.hits ≤ a.hits → mid.answered.misses ≤ a.misses →
+pub are-counted : (command : Command) (reply : Reply) (before after : ℕ) (k mid : Shard) (a : Answered) → CountsStay k mid → a ≡ counted_answer command reply before after mid.answered → mid.answered.hits ≤ a.hits → mid.answered.misses ≤ a.misses →
     IfSome (figures_in command reply) (λ figures. figures ≡ figures_of k before) → AreCounted command reply before after (figures_of k) (figures_of (record mid { answered = a }))
 are-counted command reply before after k mid a stay is hits misses told = record {
-  answered = is ∙ ap (counted command reply before after) stay.answered;
+  answered = is ∙ ap (counted_answer command reply before after) stay.answered;
   none_fell = record {
     hits = subst (λ (x : Answered). x.hits ≤ a.hits) stay.answered hits;
     misses = subst (λ (x : Answered). x.misses ≤ a.misses) stay.answered misses;

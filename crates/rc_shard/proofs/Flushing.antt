@@ -23,7 +23,7 @@ use Rattle.rc_opened.specs.Opened.{snaps_of}
 use Rattle.rc_machine.specs.State.{State, numbers, unstored}
 use Rattle.rc_machine.specs.Steps.{IsFlushed, last_number, next_number, sealing, with_table, without_sealed}
 use Rattle.rc_machine.specs.Serving.{Stops, Takes}
-use Rattle.rc_folder.specs.Tabled.{IsAdded, IsNextNumber, Tabled}
+use Rattle.rc_folder.specs.Tabled.{IsTableAdded, IsNextNumber, Tabled}
 use Rattle.rc_folder.specs.laws.Fitting.{sealed_parts_fit}
 use Rattle.rc_folder.specs.laws.Flushing.{flushes, in_time, is_flushed, later_writes, too_late}
 use Rattle.rc_folder.specs.laws.Over.{fresh, over_added, over_let_go, over_sealed}
@@ -145,8 +145,8 @@ module _ (lines : Opened → Memory → List OutLine → Type 0) where
 
       -- the sealed writes stand in the next table
       module _ (same : l.folder ≡ k.folder) (i : IsTableStored files l n files' k') where
-        added-here : IsAdded files k.folder n i.parts files' k'.folder
-        added-here = subst (λ (f : Tabled). IsAdded files f n i.parts files' k'.folder) same i.added
+        added-here : IsTableAdded files k.folder n i.parts files' k'.folder
+        added-here = subst (λ (f : Tabled). IsTableAdded files f n i.parts files' k'.folder) same i.added
 
         stands-stored : (m : State) → Stands lines files k m → Stands lines files' k' (without_sealed (with_table m i.parts))
         stands-stored m s =

@@ -1,6 +1,6 @@
 -- What the store is asked for over lines.
 use Rattle.std.proofs.Common.{◌≡◌, ℕ, ◌+◌, ◌-◌, ◌≤◌, List, [], ◌∷◌, Some, None, sym, subst, le_refl, arith}
-use Rattle.rc_shell.specs.Run.{Answers}
+use Rattle.rc_shell.specs.Run.{AnswersLines}
 use Rattle.rc_shell.specs.Holding.{OfLines}
 use Rattle.rc_shell.specs.Step.{Moment, Stage, StoreView, Waiting, Serving, LineStep, MayHaveAsked, start_moment}
 use Rattle.rc_shell.specs.declared.status.Status.{Status}
@@ -13,7 +13,7 @@ IsBounded old new = (old.bound ≤ new.bound) × (new.asks ≤ old.asks + (new.b
 further : (b ob mb nb oa ma na : ℕ) → mb ≡ ob + b → ma ≤ oa + b → mb ≤ nb → na ≤ ma + (nb - mb) → (ob ≤ nb) × (na ≤ oa + (nb - ob))
 further b ob mb nb oa ma na e first le rest = (omega arith, omega arith)
 
-asked : (old new : Moment) (lines texts : List (List ℕ)) → Answers LineStep old lines texts new → IsBounded old new
+asked : (old new : Moment) (lines texts : List (List ℕ)) → AnswersLines LineStep old lines texts new → IsBounded old new
 asked old new [] [] a = subst (λ m. IsBounded old m) (sym a) (le_refl old.bound, omega arith)
 asked old new (line ∷ lines) (text ∷ texts) a =
     let rest = asked a.0 new lines texts a.2 in

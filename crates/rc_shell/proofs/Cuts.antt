@@ -1,7 +1,12 @@
 -- Bytes are cut into whole lines and a rest in one way.
 use Rattle.std.proofs.Common.{◌≡◌, ℕ, List, [], ◌∷◌, ◌++◌, refl, sym, ◌∙◌, append_assoc}
 use Rattle.std.specs.List.{AllByRecursion}
-use Rattle.rc_shell.specs.Lines.{IsLine, BeginsWithLines, joined_lines}
+use Rattle.std.specs.List.{flat_map}
+use Rattle.rc_shell.specs.Lines.{IsLine, BeginsWithLines}
+
+-- the bytes of whole lines, a newline behind each
+abbrev pub joined_lines : List (List ℕ) → List ℕ
+joined_lines lines = flat_map (λ line. line ++ 10 ∷ []) lines
 
 -- the first newline ends the first line
 first_line : (l m x y : List ℕ) → IsLine l → IsLine m → l ++ 10 ∷ x ≡ m ++ 10 ∷ y → (l ≡ m) × (x ≡ y)

@@ -7,7 +7,7 @@ use Rattle.std.specs.Io.KnownBytes.{Appends, Consumes, Keeps, IsAtEnd}
 use Rattle.std.proofs.KnownBytes.{Appends-trans, Appends-nil, Consumes-trans, Consumes-nil, Consumes-kept}
 use Rattle.rc_outside.specs.Faults.{Rose}
 use Rattle.rc_shell.specs.Lines.{IsLine, last_line}
-use Rattle.rc_shell.specs.Run.{piece_size, IsWhole, IsWritten, Answers, Served, Due, Ran, EndedBecause}
+use Rattle.rc_shell.specs.Run.{piece_size, IsWhole, IsTextWritten, AnswersLines, Served, Due, Ran, EndedBecause}
 use Rattle.rc_shell.specs.calls.Feed.{FaultsAfter, DueOfLine, DueOfBytes, ServedLine, ServedLast, Serves, SoFar, EndedBy, kept}
 use Rattle.rc_shell.specs.Status.{status_of}
 use Rattle.rc_shell.specs.declared.status.Ending.TheVariants.{BadTable, StoreFault}
@@ -91,9 +91,11 @@ module _ {State Seen : Type 0} (Step : State → List ℕ → List ℕ → State
   due_run start now limit left taken rest bytes after texts p line small few statuses.NoMemory ps d =
       (d.0, d.1, Served-append Step start now d.1 [] taken bytes texts ps rest d.0 p d.2, few, near_cut rest bytes d.2.0 d.0 line small d.2.1, d.3)
   due_run start now limit left taken rest bytes after texts p line small few statuses.BadTable ps d =
-      (d.0, ended_behind Step Ends Leaves (IsAtEnd left × (length (taken ++ bytes) < limit)) start now [] taken bytes rest texts after p statuses.BadTable ps d.0 d.1, few, near_cut rest bytes d.1.4.0 d.0 line small d.1.4.1)
+      (let e = ended_behind Step Ends Leaves (IsAtEnd left × (length (taken ++ bytes) < limit)) start now [] taken bytes rest texts after p statuses.BadTable ps d.0 d.1 in
+      (d.0, e.0, e.1, e.2, e.3, e.4, e.5, e.6, e.7, few, near_cut rest bytes d.1.4.0 d.0 line small d.1.4.1))
   due_run start now limit left taken rest bytes after texts p line small few statuses.StoreFault ps d =
-      (d.0, ended_behind Step Ends Leaves (IsAtEnd left × (length (taken ++ bytes) < limit)) start now [] taken bytes rest texts after p statuses.StoreFault ps d.0 d.1, few, near_cut rest bytes d.1.4.0 d.0 line small d.1.4.1)
+      (let e = ended_behind Step Ends Leaves (IsAtEnd left × (length (taken ++ bytes) < limit)) start now [] taken bytes rest texts after p statuses.StoreFault ps d.0 d.1 in
+      (d.0, e.0, e.1, e.2, e.3, e.4, e.5, e.6, e.7, few, near_cut rest bytes d.1.4.0 d.0 line small d.1.4.1))
   due_run start now limit left taken rest bytes after texts p line small few s ps d = absurd d
 
   -- bytes were served in part
@@ -111,7 +113,7 @@ module _ {State Seen : Type 0} (Step : State → List ℕ → List ℕ → State
         text = s.text ++ l.0;
         consumed = Consumes-trans left mid left' s.taken bytes s.consumed took;
         appended = Appends-trans written between written' s.text l.0 s.appended l.2;
-        run = subst (λ t. IsWritten (Due Step Ends Leaves (Run segments) start limit left' (s.taken ++ bytes) after) (status_of stop) (t ++ l.0)) (sym s.fed.written)
+        run = subst (λ t. IsTextWritten (Due Step Ends Leaves (Run segments) start limit left' (s.taken ++ bytes) after) (status_of stop) (t ++ l.0)) (sym s.fed.written)
             (written_behind (DueOfBytes Step Ends Leaves s.now (s.rest ++ bytes) after) (Due Step Ends Leaves (Run segments) start limit left' (s.taken ++ bytes) after) s.fed.texts stop l.0
             (due (status_of stop)) (λ t ps d. (t, due t ps d)) l.1);
         cause = caused_by stop i i2 o o2 (same ∙ s.input_same) (faults_since stop o o1 o2 s.output_same l.3);
@@ -122,7 +124,7 @@ module _ {State Seen : Type 0} (Step : State → List ℕ → List ℕ → State
 
   -- a last line was due, and pushing it was the end
   last_pushed : (words : Words) (start : State) (limit : ℕ) (due status : Status) (taken line text : List ℕ) (texts : List (List ℕ)) (left left' written between written' : Option (List ℕ)) (after : Seen) (i i' o o1 o2 : ℕ)
-      → ((t : List ℕ) → IsWhole (Due Step Ends Leaves words start limit left' taken after) due t → IsWritten (Due Step Ends Leaves words start limit left' taken after) due t)
+      → ((t : List ℕ) → IsWhole (Due Step Ends Leaves words start limit left' taken after) due t → IsTextWritten (Due Step Ends Leaves words start limit left' taken after) due t)
       → (o2 ≡ o → EndedBecause due i i' o o2)
       → Due Step Ends Leaves words start limit left' taken after due (texts ++ line ∷ [])
       → Consumes left left' taken → Appends written between text → text ≡ concat texts → o1 ≡ o
@@ -217,9 +219,9 @@ module _ {State Seen : Type 0} (Step : State → List ℕ → List ℕ → State
       (rest, now, subst (λ ts. Served Step start taken ts rest now) (sym (append-nil texts) ∙ ap (λ t. texts ++ t) (sym d.1)) s, most, near_line rest line, d.0)
   due_last start now limit left taken rest after texts OutputFault s line most read ps d = absurd d
   due_last start now limit left taken rest after texts (Ended BadTable) s line most read ps d =
-      (rest, (texts, now, rest, d.0, s, (line, inr (refl, read)), d.1, ap (λ t. texts ++ t) d.2), most, near_line rest line)
+      (rest, texts, now, rest, d.0, s, (line, inr (refl, read)), d.1, ap (λ t. texts ++ t) d.2, most, near_line rest line)
   due_last start now limit left taken rest after texts (Ended StoreFault) s line most read ps d =
-      (rest, (texts, now, rest, d.0, s, (line, inr (refl, read)), d.1, ap (λ t. texts ++ t) d.2), most, near_line rest line)
+      (rest, texts, now, rest, d.0, s, (line, inr (refl, read)), d.1, ap (λ t. texts ++ t) d.2, most, near_line rest line)
 
   due_last_cut : (start now : State) (limit : ℕ) (left : Option (List ℕ)) (taken rest : List ℕ) (after : Seen) (texts : List (List ℕ)) → rest ≢ [] → Served Step start taken texts rest now → IsLine rest → length taken ≤ limit
       → IsAtEnd left × (length taken < limit) → (s : Status) (ps : List (List ℕ)) → DueOfLine Step Ends Leaves now rest after s ps → (t : Status) × Due Step Ends Leaves (Run segments) start limit left taken after t (texts ++ ps)
@@ -232,7 +234,7 @@ module _ {State Seen : Type 0} (Step : State → List ℕ → List ℕ → State
       s.1,
       line,
       read,
-      subst (λ ts. Answers Step start (s.0 ++ last_line rest) (texts ++ ts) d.1) (sym d.4)
+      subst (λ ts. AnswersLines Step start (s.0 ++ last_line rest) (texts ++ ts) d.1) (sym d.4)
           (Answers-append Step start now d.1 s.0 (last_line rest) texts (d.0 ∷ []) s.2 (rw (last_line-some rest some) (d.1, d.2, refl))),
       d.3,
     ),
@@ -256,7 +258,7 @@ module _ {State Seen : Type 0} (Step : State → List ℕ → List ℕ → State
         text = s.text ++ l.1;
         consumed = took_nothing left mid left' s.taken s.consumed none;
         appended = Appends-trans written between written' s.text l.1 s.appended l.3;
-        run = subst (λ t. IsWritten (Due Step Ends Leaves (Run segments) start limit left' s.taken after) (status_of stop) (t ++ l.1)) (sym s.fed.written)
+        run = subst (λ t. IsTextWritten (Due Step Ends Leaves (Run segments) start limit left' s.taken after) (status_of stop) (t ++ l.1)) (sym s.fed.written)
             (written_behind (DueOfLine Step Ends Leaves s.now s.rest after) (Due Step Ends Leaves (Run segments) start limit left' s.taken after) s.fed.texts stop l.1
             (due_last start s.now limit left' s.taken s.rest after s.fed.texts stop s.fed.served s.fed.unfinished most (at_end, less))
             (due_last_cut start s.now limit left' s.taken s.rest after s.fed.texts l.0 s.fed.served s.fed.unfinished most (at_end, less)) l.2);

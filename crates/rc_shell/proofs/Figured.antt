@@ -1,16 +1,35 @@
 -- What `stats` lines go by, as the machine is opened and after a command.
-use Rattle.std.proofs.Common.{◌≡◌, ◌+◌, ◌-◌, ◌^◌, ◌&&◌, ℕ, Bool, true, false, cond, not, min, nat_eq, inl, inr, Option, Some, None, IfSome, Ok, sym, ap, subst, ◌∙◌, arith}
+use Rattle.std.proofs.Common.{◌≡◌, ◌+◌, ◌-◌, ◌^◌, ◌&&◌, ℕ, Bool, true, false, cond, not, min, nat_eq, inl, inr, Option, Some, None, IfSome, Result, Ok, Err, refl, sym, ap, subst, ◌∙◌, arith}
+use Rattle.std.specs.Prelude.{if◌then◌else◌, ⊤}
 use Rattle.std.specs.Option.{option_or}
 use Rattle.std.proofs.Math.Nat.{min-eq_left, min-eq_right, zero-min}
 use Rattle.std.proofs.lemmas.Bool.{cases_lt}
+use Rattle.rc_outside.specs.Faults.{raised}
 use Rattle.rc_lines.specs.declared.commands.Command.{Command}
 use Rattle.rc_lines.specs.declared.commands.Figures.{Figures}
+use Rattle.rc_lines.specs.declared.commands.Refusal.{Refusal}
 use Rattle.rc_lines.specs.declared.commands.Reply.{Reply}
 use Rattle.rc_machine.specs.State.{State}
-use Rattle.rc_folder.specs.Counting.{AreCounted, AreFresh, NoneFell, answered_of, figures_in, is_answered, one_more}
+use Rattle.rc_folder.specs.Counting.{AreCounted, AreFresh, NoneFell, answered_of, figures_in, is_answered}
 use Rattle.rc_folder.specs.declared.counts.Answered.{Answered}
 use Rattle.rc_shell.specs.Late.{GoesBy}
-use Rattle.rc_shell.specs.Step.{MayBeTold, Serving, TellsFigures, Statistics, nothing_told, one_if, told_after}
+use Rattle.rc_shell.specs.Step.{MayBeTold, Serving, Statistics, nothing_told, told_after}
+
+-- a line's reply tells figures that may be told, where it is one to `stats`
+abbrev pub TellsFigures : Result Command Refusal → Option Reply → ℕ → Statistics → Type 0
+TellsFigures (Ok command) (Some reply) asks told = IfSome (figures_in command reply) (MayBeTold asks told)
+TellsFigures meaning reply asks told = ⊤
+
+-- so for each command and each answer
+pub tells-each : (meaning : Result Command Refusal) (reply : Option Reply) (asks : ℕ) (told : Statistics) → TellsFigures meaning reply asks told
+    → (command : Command) (answer : Reply) → meaning ≡ Ok command → reply ≡ Some answer → IfSome (figures_in command answer) (MayBeTold asks told)
+tells-each meaning reply asks told h command answer e f = subst (λ m. TellsFigures m (Some answer) asks told) e (subst (λ o. TellsFigures meaning o asks told) f h)
+
+pub tells-one : (meaning : Result Command Refusal) (reply : Option Reply) (asks : ℕ) (told : Statistics)
+    → ((command : Command) (answer : Reply) → meaning ≡ Ok command → reply ≡ Some answer → IfSome (figures_in command answer) (MayBeTold asks told)) → TellsFigures meaning reply asks told
+tells-one (Ok command) (Some reply) asks told h = h command reply refl refl
+tells-one (Ok command) None asks told h = tt
+tells-one (Err refusal) reply asks told h = tt
 
 pub goes-fresh : (opened : ℕ) (figures : ℕ → Figures) → AreFresh opened figures → GoesBy opened (nothing_told opened) figures
 goes-fresh opened figures f = record {
@@ -25,22 +44,19 @@ min-more most a t e = elim (cases_lt t most) [
   | inr high ↦ (let is : a ≡ most = e ∙ min-eq_right high in min-eq_right (omega (arith, is)) ∙ sym (min-eq_right (omega (arith, high))))
 ]
 
-more-min : (a t : ℕ) → a ≡ min t (2 ^ 64 - 1) → one_more a ≡ min (t + 1) (2 ^ 64 - 1)
+more-min : (a t : ℕ) → a ≡ min t (2 ^ 64 - 1) → raised a ≡ min (t + 1) (2 ^ 64 - 1)
 more-min a t e = min-more (2 ^ 64 - 1) a t e
 
-same-min : (a t : ℕ) → a ≡ min t (2 ^ 64 - 1) → a ≡ min (t + 0) (2 ^ 64 - 1)
-same-min a t e = e ∙ ap (λ n. min n (2 ^ 64 - 1)) (omega arith)
-
 -- the counts after a reply, by whether it answers and whether the store was asked for nothing
-hits-counted : (answers same : Bool) (a : Answered) (t : ℕ) → a.hits ≡ min t (2 ^ 64 - 1) → (cond answers (cond same (record a { hits = one_more a.hits }) (record a { misses = one_more a.misses })) a).hits ≡ min (t + one_if (answers && same)) (2 ^ 64 - 1)
+hits-counted : (answers same : Bool) (a : Answered) (t : ℕ) → a.hits ≡ min t (2 ^ 64 - 1) → (cond answers (cond same (record a { hits = raised a.hits }) (record a { misses = raised a.misses })) a).hits ≡ min (if answers && same then t + 1 else t) (2 ^ 64 - 1)
 hits-counted true true a t e = more-min a.hits t e
-hits-counted true false a t e = same-min a.hits t e
-hits-counted false same a t e = same-min a.hits t e
+hits-counted true false a t e = e
+hits-counted false same a t e = e
 
-misses-counted : (answers same : Bool) (a : Answered) (t : ℕ) → a.misses ≡ min t (2 ^ 64 - 1) → (cond answers (cond same (record a { hits = one_more a.hits }) (record a { misses = one_more a.misses })) a).misses ≡ min (t + one_if (answers && not same)) (2 ^ 64 - 1)
-misses-counted true true a t e = same-min a.misses t e
+misses-counted : (answers same : Bool) (a : Answered) (t : ℕ) → a.misses ≡ min t (2 ^ 64 - 1) → (cond answers (cond same (record a { hits = raised a.hits }) (record a { misses = raised a.misses })) a).misses ≡ min (if answers && not same then t + 1 else t) (2 ^ 64 - 1)
+misses-counted true true a t e = e
 misses-counted true false a t e = more-min a.misses t e
-misses-counted false same a t e = same-min a.misses t e
+misses-counted false same a t e = e
 
 fell-then : (a b c : Figures) → NoneFell a b → NoneFell b c → NoneFell a c
 fell-then a b c f g = record {

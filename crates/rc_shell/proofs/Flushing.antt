@@ -24,8 +24,9 @@ use Rattle.rc_machine.specs.Flushed.{Flush, HasFlushed, IsFlushOf, AreNext, acce
 use Rattle.rc_machine.specs.laws.Folder.{IsPut, files_kept, files_new, one_of, writes_around}
 use Rattle.rc_machine.specs.laws.Changes.{change_of}
 use Rattle.rc_machine.specs.laws.Holding.{holds_at_first, holds_on, grows, schema_stays}
-use Rattle.rc_shell.specs.Run.{Answers}
-use Rattle.rc_shell.specs.Step.{Moment, Stage, StoreView, Waiting, Serving, StageStep, LineStep, files_of, meaning_at, served, start_moment}
+use Rattle.rc_shell.specs.Run.{AnswersLines}
+use Rattle.rc_machine.specs.Built.{served}
+use Rattle.rc_shell.specs.Step.{Moment, Stage, StoreView, Waiting, Serving, StageStep, LineStep, files_of, meaning_at, start_moment}
 use Rattle.rc_shell.specs.Holding.{OfLines, HoldsFlushed, IsFlushedFile, IsRunOf, write_accepted, accepted_writes}
 use Rattle.rc_shell.specs.declared.status.Status.{Status}
 use Rattle.rc_shell.specs.declared.words.Words.{Words}
@@ -190,7 +191,7 @@ alike files (Waiting now) all other same at = (at.0, λ schema. sym (same schema
 alike files (Serving m) all other same at =
     record { segments = at.segments; schema = at.schema; tables = at.tables; infos = at.infos; are = at.are; flushes = at.flushes; has = at.has; log = at.log ∙ same m.schema }
 
-pub at_end : (files : Option Files) (old new : Moment) (lines texts : List (List ℕ)) (all : SchemaValue → List Write) → AtStage files old.stage all → Answers LineStep old lines texts new
+pub at_end : (files : Option Files) (old new : Moment) (lines texts : List (List ℕ)) (all : SchemaValue → List Write) → AtStage files old.stage all → AnswersLines LineStep old lines texts new
     → AtStage files new.stage (λ schema. all schema ++ accepted_writes schema lines texts)
 at_end files old new [] [] all at a =
     subst (λ (m : Moment). AtStage files m.stage (λ schema. all schema ++ accepted_writes schema [] [])) (sym a) (alike files old.stage all (λ schema. all schema ++ []) (λ schema. sym (append-nil (all schema))) at)

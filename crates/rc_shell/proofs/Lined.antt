@@ -8,7 +8,8 @@ use Rattle.rc_lines.specs.declared.commands.Command.{Command}
 use Rattle.rc_lines.specs.declared.commands.Command.TheVariants.{SetSchema}
 use Rattle.rc_lines.specs.declared.commands.Refusal.{Refusal}
 use Rattle.rc_shell.specs.Lines.{last_line}
-use Rattle.rc_shell.specs.Run.{Answers, IsWhole, IsCutOff, IsWritten, IsEnded, IsNear, Due}
+use Rattle.rc_shell.specs.calls.Feed.{IsEnded}
+use Rattle.rc_shell.specs.Run.{AnswersLines, IsWhole, IsCutOff, IsTextWritten, IsNear, Due}
 use Rattle.rc_shell.specs.Step.{Moment, Stage, Waiting, StoreView, LineStep, EndsRun, EndsRunAt, LeavesStore, meaning_at, start_moment, tells_fault}
 use Rattle.rc_shell.specs.Holding.{OfLines, AreFirstLines, fault_of}
 use Rattle.rc_shell.specs.declared.status.Status.{Status}
@@ -26,7 +27,7 @@ pub record Pieces (words : Words) (before after : StoreView) (status : Status) (
   pub last : List ℕ
   pub end : Moment
   pub first : AreFirstLines taken lines
-  pub answered : Answers LineStep (start_moment words before) lines texts end
+  pub answered : AnswersLines LineStep (start_moment words before) lines texts end
   pub are : concat pieces ≡ concat texts ++ last
   pub leaves : LeavesStore end after
   pub faults : min (before.1 + (count_by tells_fault texts + fault_of status)) (2 ^ 64 - 1) ≤ after.1
@@ -50,7 +51,7 @@ one_last texts last = concat-append texts (last ∷ []) ∙ ap (λ t. concat tex
 
 module _ (words : Words) (before after : StoreView) (taken : List ℕ) where
   -- lines were answered
-  no_fault : (status : Status) (texts lines : List (List ℕ)) (end : Moment) → fault_of status ≡ 0 → Answers LineStep (start_moment words before) lines texts end → LeavesStore end after
+  no_fault : (status : Status) (texts lines : List (List ℕ)) (end : Moment) → fault_of status ≡ 0 → AnswersLines LineStep (start_moment words before) lines texts end → LeavesStore end after
       → min (before.1 + (count_by tells_fault texts + fault_of status)) (2 ^ 64 - 1) ≤ after.1
   no_fault status texts lines end none a l =
       counted_further (2 ^ 64 - 1) before.1 (count_by tells_fault texts) (fault_of status) end.faults after.1 (faults_are_counted_lem (start_moment words before) end lines texts a) l.1 none
@@ -116,18 +117,18 @@ of_due (Run n) before after limit left taken statuses.NoMemory pieces d = record
   faults = no_fault (Run n) before after taken statuses.NoMemory pieces d.2.0 d.1 refl d.2.2 d.5;
 }
 of_due (Run n) before after limit left taken statuses.BadTable pieces d =
-    ended (Run n) before after taken limit (IsAtEnd left × (length taken < limit)) statuses.BadTable pieces d.0 d.1 d.3
-    (no_fault (Run n) before after taken statuses.BadTable d.1.0 d.1.4.0 d.1.1 refl d.1.4.2 d.1.6.0)
+    ended (Run n) before after taken limit (IsAtEnd left × (length taken < limit)) statuses.BadTable pieces d.0 (d.1, d.2, d.3, d.4, d.5, d.6, d.7, d.8) d.10
+    (no_fault (Run n) before after taken statuses.BadTable d.1 d.5.0 d.2 refl d.5.2 d.7.0)
 of_due (Run n) before after limit left taken statuses.StoreFault pieces d =
-    ended (Run n) before after taken limit (IsAtEnd left × (length taken < limit)) statuses.StoreFault pieces d.0 d.1 d.3
-    (one_further (2 ^ 64 - 1) before.1 (count_by tells_fault d.1.0) d.1.1.faults after.1 (faults_are_counted_lem (start_moment (Run n) before) d.1.1 d.1.4.0 d.1.0 d.1.4.2)
-    (store_rose d.1.1.stage (meaning_at d.1.1.stage d.1.2) d.1.3 d.1.1.faults after.1 d.1.6.1))
+    ended (Run n) before after taken limit (IsAtEnd left × (length taken < limit)) statuses.StoreFault pieces d.0 (d.1, d.2, d.3, d.4, d.5, d.6, d.7, d.8) d.10
+    (one_further (2 ^ 64 - 1) before.1 (count_by tells_fault d.1) d.2.faults after.1 (faults_are_counted_lem (start_moment (Run n) before) d.2 d.5.0 d.1 d.5.2)
+    (store_rose d.2.stage (meaning_at d.2.stage d.3) d.4 d.2.faults after.1 d.7.1))
 of_due (Run n) before after limit left taken statuses.BadWords pieces d =
-    ended (Run n) before after taken limit (IsAtEnd left × (length taken < limit)) statuses.BadWords pieces d.0 d.1 d.3
-    (no_fault (Run n) before after taken statuses.BadWords d.1.0 d.1.4.0 d.1.1 refl d.1.4.2 d.1.6.0)
+    ended (Run n) before after taken limit (IsAtEnd left × (length taken < limit)) statuses.BadWords pieces d.0 (d.1, d.2, d.3, d.4, d.5, d.6, d.7, d.8) d.10
+    (no_fault (Run n) before after taken statuses.BadWords d.1 d.5.0 d.2 refl d.5.2 d.7.0)
 of_due (Run n) before after limit left taken statuses.OutputFault pieces d =
-    ended (Run n) before after taken limit (IsAtEnd left × (length taken < limit)) statuses.OutputFault pieces d.0 d.1 d.3
-    (no_fault (Run n) before after taken statuses.OutputFault d.1.0 d.1.4.0 d.1.1 refl d.1.4.2 d.1.6.0)
+    ended (Run n) before after taken limit (IsAtEnd left × (length taken < limit)) statuses.OutputFault pieces d.0 (d.1, d.2, d.3, d.4, d.5, d.6, d.7, d.8) d.10
+    (no_fault (Run n) before after taken statuses.OutputFault d.1 d.5.0 d.2 refl d.5.2 d.7.0)
 of_due Refused before after limit left taken statuses.BadWords pieces d = record {
   lines = [];
   texts = [];
@@ -169,7 +170,7 @@ module _ (words : Words) (before after : StoreView) (limit : ℕ) (left : Option
         faults = rw none (fewer (2 ^ 64 - 1) before.1 (count_by tells_fault p.texts) (fault_of c.0) after.1 p.faults);
       }
 
-  pub of_written : (status : Status) (text : List ℕ) → IsWritten (Due LineStep EndsRun LeavesStore words (start_moment words before) limit left taken after) status text → OfLines words before after status taken text
+  pub of_written : (status : Status) (text : List ℕ) → IsTextWritten (Due LineStep EndsRun LeavesStore words (start_moment words before) limit left taken after) status text → OfLines words before after status taken text
   of_written statuses.OutputFault text w = written_part statuses.OutputFault w.0 text refl w.1
   of_written statuses.NoMemory text (inl w) = written_whole statuses.NoMemory text w
   of_written statuses.NoMemory text (inr w) = written_part statuses.NoMemory [] text refl w

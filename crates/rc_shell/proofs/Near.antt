@@ -1,6 +1,7 @@
 -- At most a piece is taken ahead of the line that is answered next.
 use Rattle.std.proofs.Common.{◌≡◌, ℕ, ◌<◌, ◌≤◌, List, [], ◌∷◌, ◌++◌, length, sym, ap, ◌∙◌, append_assoc, append-nil, arith, length-append}
-use Rattle.rc_shell.specs.Lines.{IsLine, BeginsWithLines, joined_lines}
+use Rattle.rc_shell.proofs.Cuts.{joined_lines}
+use Rattle.rc_shell.specs.Lines.{IsLine, BeginsWithLines}
 use Rattle.rc_shell.specs.Run.{piece_size, IsNear}
 
 -- a newline behind bytes that have none stands in what follows them

@@ -1,16 +1,32 @@
 -- What a line means where the program serves its command.
-use Rattle.std.proofs.Common.{◌≡◌, Bool, true, false, Result, Ok, Err, subst}
+use Rattle.std.proofs.Common.{◌≡◌, Bool, true, false, Result, Ok, Err, refl, ap, sym, subst, ◌∙◌}
 use Rattle.std.specs.Prelude.{if◌then◌else◌}
 use Rattle.rc_lines.specs.declared.commands.Command.{Command}
+use Rattle.rc_lines.specs.declared.commands.Command.TheVariants.{Nothing, SetSchema, Put, OpenRead, Read, Close, Flush, FlushBegin, FlushStep, Evict, Compact, Clean, Stats}
 use Rattle.rc_lines.specs.declared.commands.Refusal.{Refusal}
 use Rattle.rc_lines.specs.declared.commands.Refusal.TheVariants.{BadLine}
-use Rattle.rc_machine.specs.Built.{is_built}
-use Rattle.rc_shell.specs.Step.{served}
+use Rattle.rc_machine.specs.Built.{is_built, served}
+
+-- a command is served as it is, or as a bad line
+pub served_as : (command : Command) → served (Ok command) ≡ (if is_built command then Ok command else Err BadLine)
+served_as Nothing = refl
+served_as (SetSchema schema) = refl
+served_as (Put w) = refl
+served_as (OpenRead id key slice) = refl
+served_as (Read id count) = refl
+served_as (Close id) = refl
+served_as Flush = refl
+served_as FlushBegin = refl
+served_as (FlushStep count) = refl
+served_as (Evict count) = refl
+served_as (Compact count) = refl
+served_as (Clean count) = refl
+served_as Stats = refl
 
 -- a command is what the line means
 pub served_ok : (meaning : Result Command Refusal) (command : Command) → served meaning ≡ Ok command → meaning ≡ Ok command
 served_ok (Err refusal) command e = absurd (cc)
-served_ok (Ok other) command e = built (is_built other) e
+served_ok (Ok other) command e = built (is_built other) (sym (served_as other) ∙ e)
   where
     built : (b : Bool) → (if b then Ok other else Err BadLine) ≡ Ok command → ◌≡◌ {A = Result Command Refusal} (Ok other) (Ok command)
     built true f = f
@@ -22,4 +38,14 @@ served_is P bad (Err other) all refusal e = all refusal e
 served_is P bad (Ok command) all refusal e = elim (is_built command) as (λ b. (if b then Ok command else Err BadLine) ≡ Err refusal → P refusal) [
   | true ↦ λ f. absurd (cc)
   | false ↦ λ f. (let is : BadLine ≡ refusal = cc in subst P is bad)
-] e
+] (sym (served_as command) ∙ e)
+
+-- a line of a command that is served, of one that is not, and one that is refused
+pub served_built : (meaning : Result Command Refusal) (command : Command) → meaning ≡ Ok command → is_built command ≡ true → served meaning ≡ Ok command
+served_built meaning command e b = ap served e ∙ served_as command ∙ ap (λ c. if c then Ok command else Err BadLine) b
+
+pub served_bad : (meaning : Result Command Refusal) (command : Command) → meaning ≡ Ok command → is_built command ≡ false → served meaning ≡ Err BadLine
+served_bad meaning command e b = ap served e ∙ served_as command ∙ ap (λ c. if c then Ok command else Err BadLine) b
+
+pub served_refused : (meaning : Result Command Refusal) (refusal : Refusal) → meaning ≡ Err refusal → served meaning ≡ Err refusal
+served_refused meaning refusal e = ap served e

@@ -4,9 +4,10 @@ use Rattle.std.proofs.lemmas.List.{take-append-le, take_all, append-nil, length-
 use Rattle.std.specs.List.{AllByRecursion, concat}
 use Rattle.std.proofs.KnownBytes.{Appends-trans, Appends-nil}
 use Rattle.rc_outside.specs.Faults.{Rose}
-use Rattle.rc_shell.specs.Lines.{IsLine, BeginsWithLines, IsNextLine, joined_lines}
-use Rattle.rc_shell.specs.Run.{IsWhole, IsCutOff, IsWritten, Answers, Served, IsEnded}
-use Rattle.rc_shell.specs.calls.Feed.{PushedText, PushedEnding, FaultsAfter, DueOfLine, DueOfBytes, ServedLine, Serves, kept}
+use Rattle.rc_shell.proofs.Cuts.{joined_lines}
+use Rattle.rc_shell.specs.Lines.{IsLine, BeginsWithLines, IsNextLine}
+use Rattle.rc_shell.specs.Run.{IsWhole, IsCutOff, IsTextWritten, AnswersLines, Served}
+use Rattle.rc_shell.specs.calls.Feed.{IsEnded, PushedText, PushedEnding, FaultsAfter, DueOfLine, DueOfBytes, ServedLine, Serves, kept}
 use Rattle.rc_shell.specs.Status.{status_at, status_of}
 use Rattle.rc_shell.specs.declared.status.Status.{Status}
 use Rattle.rc_shell.specs.declared.status.Status.TheVariants as statuses
@@ -91,7 +92,7 @@ module _ (Was Is : Status → List (List ℕ) → Type 0) (front : List (List �
   -- so what is written, where serving stopped
   pub written_behind : (stop : Stop) (text : List ℕ) → ((ps : List (List ℕ)) → Was (status_of stop) ps → Is (status_of stop) (front ++ ps))
       → ((s : Status) (ps : List (List ℕ)) → Was s ps → (now : Status) × Is now (front ++ ps))
-      → IsWritten Was (status_of stop) text → IsWritten Is (status_of stop) (concat front ++ text)
+      → IsTextWritten Was (status_of stop) text → IsTextWritten Is (status_of stop) (concat front ++ text)
   written_behind OutputFault text whole cut w = (w.0, cut_behind w.0 text cut w.1)
   written_behind NoMemory text whole cut (inl w) = inl (whole_behind statuses.NoMemory text whole w)
   written_behind NoMemory text whole cut (inr w) = inr (cut_behind [] text cut w)
@@ -100,8 +101,8 @@ module _ (Was Is : Status → List (List ℕ) → Type 0) (front : List (List �
 
 module _ {State : Type 0} (Step : State → List ℕ → List ℕ → State → Type 0) where
   pub Answers-append : (old mid new : State) (xs ys : List (List ℕ)) (ts us : List (List ℕ))
-      → Answers Step old xs ts mid → Answers Step mid ys us new → Answers Step old (xs ++ ys) (ts ++ us) new
-  Answers-append old mid new [] ys [] us p q = subst (λ s. Answers Step s ys us new) p q
+      → AnswersLines Step old xs ts mid → AnswersLines Step mid ys us new → AnswersLines Step old (xs ++ ys) (ts ++ us) new
+  Answers-append old mid new [] ys [] us p q = subst (λ s. AnswersLines Step s ys us new) p q
   Answers-append old mid new (x ∷ xs) ys (t ∷ ts) us p q = (p.0, p.1, Answers-append p.0 mid new xs ys ts us p.2 q)
   Answers-append old mid new [] ys (t ∷ ts) us p q = absurd p
   Answers-append old mid new (x ∷ xs) ys [] us p q = absurd p
@@ -277,7 +278,7 @@ module _ {State Seen : Type 0} (Step : State → List ℕ → List ℕ → State
       let s = q p.1 p.2 p.3.unfinished p.5 p.4 in
       let due = due_behind old p.2 rest b c p.1 p.3.texts next p.3.served in (
         p.0 ++ s.0,
-        subst (λ t. IsWritten (DueOfBytes Step Ends Leaves old (rest ++ (b ++ c)) next) (status_of stop) (t ++ s.0)) (sym p.3.written)
+        subst (λ t. IsTextWritten (DueOfBytes Step Ends Leaves old (rest ++ (b ++ c)) next) (status_of stop) (t ++ s.0)) (sym p.3.written)
             (written_behind (DueOfBytes Step Ends Leaves p.2 (p.1 ++ c) next) (DueOfBytes Step Ends Leaves old (rest ++ (b ++ c)) next) p.3.texts stop s.0 (due (status_of stop)) (λ s ps d. (s, due s ps d)) s.1),
         Appends-trans before between now p.0 s.0 p.6 s.2,
         faults_since stop f f1 f2 p.7 s.3,

@@ -26,7 +26,8 @@ use Rattle.rc_lines.specs.declared.commands.Figures.{Figures}
 use Rattle.rc_folder.specs.Counting.{AreCounted, AreFresh}
 use Rattle.rc_folder.specs.Tabled.{Tabled}
 use Rattle.rc_shell.specs.calls.Feed.{Answered}
-use Rattle.rc_shell.specs.Step.{Moment, Stage, StoreView, Waiting, Serving, StageStep, LineStep, EndsRun, EndsRunAt, LeavesStore, MayAsk, MayHaveAsked, TellsFigures, Statistics, files_of, meaning_at, nothing_told, served, start_moment, bad_table, tells_fault, told_after}
+use Rattle.rc_machine.specs.Built.{served}
+use Rattle.rc_shell.specs.Step.{Moment, Stage, StoreView, Waiting, Serving, StageStep, LineStep, EndsRun, EndsRunAt, LeavesStore, MayAsk, MayHaveAsked, Statistics, files_of, meaning_at, nothing_told, start_moment, bad_table, tells_fault, told_after}
 use Rattle.rc_shell.specs.Late.{GoesBy, IsBudget, KeepsMoment, ServesAt, WaitsAt}
 use Rattle.rc_shell.specs.calls.Late.{schema_set}
 use Rattle.rc_shell.specs.calls.Standing.{MayClose}
@@ -38,7 +39,7 @@ use Rattle.rc_shell.specs.declared.words.Words.{Words}
 use Rattle.rc_shell.specs.declared.words.Words.TheVariants.{Run}
 use Rattle.rc_lines.specs.laws.Refusals.{early}
 use Rattle.rc_shell.proofs.Served.{served_ok, served_is}
-use Rattle.rc_shell.proofs.Figured.{goes-fresh, goes-on, may-tell}
+use Rattle.rc_shell.proofs.Figured.{TellsFigures, goes-fresh, goes-on, may-tell, tells-each}
 use Rattle.rc_shell.proofs.Told.{told, plain}
 
 clash : (b : Bool) → b ≡ false → b ≡ true → ⊥
@@ -63,7 +64,7 @@ line_step old line text was stage reply faults asks bound told e step counts may
   asks = (bound, subst (λ st. MayAsk st (meaning_at st line) bound) (sym e) may, refl, most);
   segments = refl;
   told = subst (λ st. told ≡ told_after st (meaning_at st line) reply old.asks asks old.told) (sym e) goes;
-  figures = subst (λ st. TellsFigures (meaning_at st line) reply old.asks old.told) (sym e) tells;
+  figures = tells-each (meaning_at old.stage line) reply old.asks old.told (subst (λ st. TellsFigures (meaning_at st line) reply old.asks old.told) (sym e) tells);
 }
 
 -- it stands where the stage does and the counts are the store's

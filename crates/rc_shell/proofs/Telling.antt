@@ -1,5 +1,6 @@
 -- What was told last over lines.
 use Rattle.std.proofs.Common.{◌≡◌, ◌+◌, ◌-◌, ◌^◌, ◌≤◌, ◌&&◌, ℕ, suc, Bool, true, false, not, nat_eq, List, [], ◌∷◌, length, Option, Some, None, IfSome, Result, Ok, Err, refl, sym, ap, subst, ◌∙◌, arith}
+use Rattle.std.specs.Prelude.{if◌then◌else◌}
 use Rattle.std.specs.Option.{option_or}
 use Rattle.std.proofs.Math.Nat.{min-le_left}
 use Rattle.rc_lines.specs.declared.commands.Command.{Command}
@@ -12,8 +13,9 @@ use Rattle.rc_machine.specs.Steps.{Steps}
 use Rattle.rc_machine.specs.laws.Changes.{Change, Reads, Writes, Seals, Begins, Stored, Goes, Ends, change_of}
 use Rattle.rc_folder.specs.Counting.{figures_in, is_answered}
 use Rattle.rc_shell.specs.Holding.{IsWithinBounds, OfLines}
-use Rattle.rc_shell.specs.Run.{Answers}
-use Rattle.rc_shell.specs.Step.{LineStep, MayBeTold, Moment, Stage, StageStep, StoreView, TellsFigures, Statistics, Waiting, Serving, meaning_at, one_if, start_moment, told_after}
+use Rattle.rc_shell.specs.Run.{AnswersLines}
+use Rattle.rc_shell.proofs.Figured.{TellsFigures, tells-one}
+use Rattle.rc_shell.specs.Step.{LineStep, MayBeTold, Moment, Stage, StageStep, StoreView, Statistics, Waiting, Serving, meaning_at, start_moment, told_after}
 use Rattle.rc_shell.specs.Words.{segments_of}
 use Rattle.rc_shell.specs.declared.status.Status.{Status}
 use Rattle.rc_shell.specs.declared.words.Words.{Words}
@@ -74,7 +76,7 @@ same_told n segments bound more asked asked' told few h = record {
   last = telling_more n segments bound more told.last h.last;
 }
 
-one-more : (answers same : Bool) (h m n : ℕ) → h + m ≤ n → (h + one_if (answers && same)) + (m + one_if (answers && not same)) ≤ suc n
+one-more : (answers same : Bool) (h m n : ℕ) → h + m ≤ n → (if answers && same then h + 1 else h) + (if answers && not same then m + 1 else m) ≤ suc n
 one-more true true h m n le = omega (arith, le)
 one-more true false h m n le = omega (arith, le)
 one-more false same h m n le = omega (arith, le)
@@ -126,12 +128,12 @@ IsMomentOf n now = HasBudget now.segments now.stage × IsToldWell n now.segments
 line_after : (n : ℕ) (old new : Moment) (line text : List ℕ) → LineStep old line text new → IsMomentOf n old → IsMomentOf (suc n) new
 unfolding IsMomentOf IsAfter
 line_after n old new line text s h =
-    let a = after_line n old.segments old.bound s.asks.0 old.asks new.asks old.told s.asks.3 h.1 old.stage new.stage (meaning_at old.stage line) s.reply text s.stage s.figures h.0 in
+    let a = after_line n old.segments old.bound s.asks.0 old.asks new.asks old.told s.asks.3 h.1 old.stage new.stage (meaning_at old.stage line) s.reply text s.stage (tells-one (meaning_at old.stage line) s.reply old.asks old.told s.figures) h.0 in
     let told = subst (λ t. IsToldWell (suc n) old.segments (old.bound + s.asks.0) new.asks t) (sym s.told) a.1 in
     let bound = subst (λ b. IsToldWell (suc n) old.segments b new.asks new.told) (sym s.asks.2) told in
     (subst (λ k. HasBudget k new.stage) (sym s.segments) a.0, subst (λ k. IsToldWell (suc n) k new.bound new.asks new.told) (sym s.segments) bound)
 
-lines_after : (n : ℕ) (old new : Moment) (lines texts : List (List ℕ)) → Answers LineStep old lines texts new → IsMomentOf n old → IsMomentOf (n + length lines) new × (new.segments ≡ old.segments)
+lines_after : (n : ℕ) (old new : Moment) (lines texts : List (List ℕ)) → AnswersLines LineStep old lines texts new → IsMomentOf n old → IsMomentOf (n + length lines) new × (new.segments ≡ old.segments)
 lines_after n old new [] [] a h = (subst (λ k. IsMomentOf k new) (let e : n ≡ n + 0 = omega arith in e) (subst (IsMomentOf n) (sym a) h), ap (λ (m : Moment). m.segments) a)
 lines_after n old new (line ∷ lines) (text ∷ texts) a h =
     let r = lines_after (suc n) a.0 new lines texts a.2 (line_after n old a.0 line text a.1 h) in

@@ -17,7 +17,7 @@ use Rattle.rc_lines.specs.Texts.{reply_text, refusal_text, figures_text}
 use Rattle.rc_machine.specs.State.{State, Reader, numbers, reader_of}
 use Rattle.rc_machine.specs.Steps.{Steps, Opens, Gives, Stores, Refuses, next_number, without_sealed}
 use Rattle.rc_machine.specs.laws.Changes.{Change, Reads, Writes, Seals, Begins, Stored, Goes, Ends, change_of}
-use Rattle.rc_shell.specs.Run.{Answers}
+use Rattle.rc_shell.specs.Run.{AnswersLines}
 use Rattle.rc_shell.specs.Step.{Moment, Stage, Waiting, Serving, LineStep, StageStep, files_of, meaning_at}
 use Rattle.rc_shell.specs.Holding.{tells_damage}
 use Rattle.rc_shell.proofs.Served.{served_is}
@@ -168,7 +168,7 @@ staged_soundly segments (Waiting files) line answer text new t s =
 staged_soundly segments (Serving m) line answer text new t s =
     taken_soundly segments m (meaning_at (Serving m) line) answer text new t (λ refusal e. served_is (λ r. tells_damage (refusal_text r) ≡ false) refl (parse (Some m.schema) line) (sound_refusal (Some m.schema) line) refusal e) s
 
-pub undamaged : (old new : Moment) (lines texts : List (List ℕ)) → IsTold (files_of old.stage) → Answers LineStep old lines texts new → All (λ text. tells_damage text ≡ false) texts
+pub undamaged : (old new : Moment) (lines texts : List (List ℕ)) → IsTold (files_of old.stage) → AnswersLines LineStep old lines texts new → All (λ text. tells_damage text ≡ false) texts
 undamaged old new [] [] t a = λ k d l. absurd (omega arith)
 undamaged old new (line ∷ lines) (text ∷ texts) t a =
     let s = staged_soundly old.segments old.stage line a.1.reply text a.0.stage t a.1.stage in

@@ -20,7 +20,7 @@ use Rattle.rc_lines.specs.Grammar.{parse}
 use Rattle.rc_spelling.specs.Words.{is_word}
 use Rattle.rc_machine.specs.Flushed.{Flush, IsFlushOf, tables_of, writes_of, files_with}
 use Rattle.rc_shell.specs.Lines.{BeginsWithLines, last_line}
-use Rattle.rc_shell.specs.Run.{Answers, IsNear}
+use Rattle.rc_shell.specs.Run.{AnswersLines, IsNear}
 use Rattle.rc_shell.specs.Step.{Moment, StoreView, LineStep, LeavesStore, start_moment, tells_fault}
 use Rattle.rc_shell.specs.declared.status.Status.{Status}
 use Rattle.rc_shell.specs.declared.status.Status.TheVariants.{StoreFault}
@@ -45,7 +45,7 @@ pub record OfLines (words : Words) (before after : StoreView) (status : Status) 
   pub unwritten : List ℕ
   pub end : Moment
   pub first : AreFirstLines taken lines
-  pub answered : Answers LineStep (start_moment words before) lines texts end
+  pub answered : AnswersLines LineStep (start_moment words before) lines texts end
   pub told : written ++ unwritten ≡ concat texts ++ last
   pub leaves : LeavesStore end after
   pub faults : min (before.1 + (count_by tells_fault texts + fault_of status)) (2 ^ 64 - 1) ≤ after.1

@@ -7,13 +7,9 @@ use Rattle.rc_mutation.specs.Fragments.{has_any}
 abbrev pub IsLine : List ℕ → Type 0
 IsLine line = AllByRecursion (λ byte. byte ≢ 10) line
 
--- the bytes of whole lines, a newline behind each
-abbrev pub joined_lines : List (List ℕ) → List ℕ
-joined_lines lines = flat_map (λ line. line ++ 10 ∷ []) lines
-
--- the bytes begin with these whole lines, and more comes behind them
+-- the bytes begin with these whole lines, a newline behind each, and more comes behind them
 abbrev pub BeginsWithLines : List ℕ → List (List ℕ) → List ℕ → Type 0
-BeginsWithLines bytes lines more = (bytes ≡ joined_lines lines ++ more) × AllByRecursion IsLine lines
+BeginsWithLines bytes lines more = (bytes ≡ flat_map (λ line. line ++ 10 ∷ []) lines ++ more) × AllByRecursion IsLine lines
 
 -- what stands behind the last newline is a line where it is not empty
 abbrev pub last_line : List ℕ → List (List ℕ)

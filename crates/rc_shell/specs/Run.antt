@@ -40,34 +40,29 @@ module _ (Due : Status → List (List ℕ) → Type 0) where
 
   -- what is written where this is the status: all of them; in part where the output failed; and where memory ran out, one more may have
   -- been due of which nothing is written
-  abbrev pub IsWritten : Status → List ℕ → Type 0
-  IsWritten OutputFault text = (written : List ℕ) × IsCutOff written text
-  IsWritten NoMemory text = IsWhole NoMemory text ⊎ IsCutOff [] text
-  IsWritten status text = IsWhole status text
+  abbrev pub IsTextWritten : Status → List ℕ → Type 0
+  IsTextWritten OutputFault text = (written : List ℕ) × IsCutOff written text
+  IsTextWritten NoMemory text = IsWhole NoMemory text ⊎ IsCutOff [] text
+  IsTextWritten status text = IsWhole status text
 
 module _ {State : Type 0} (Step : State → List ℕ → List ℕ → State → Type 0) where
   -- from old the machine may answer these lines with these texts, one after another, and is then new
-  abbrev pub Answers : State → List (List ℕ) → List (List ℕ) → State → Type 0
-  Answers old [] [] new = new ≡ old
-  Answers old (line ∷ lines) (text ∷ texts) new = (mid : State) × Step old line text mid × Answers mid lines texts new
-  Answers old lines texts new = ⊥
+  abbrev pub AnswersLines : State → List (List ℕ) → List (List ℕ) → State → Type 0
+  AnswersLines old [] [] new = new ≡ old
+  AnswersLines old (line ∷ lines) (text ∷ texts) new = (mid : State) × Step old line text mid × AnswersLines mid lines texts new
+  AnswersLines old lines texts new = ⊥
 
   -- the bytes begin with whole lines that may be answered by these texts, and more comes behind them; the machine is then new
   abbrev pub Served : State → List ℕ → List (List ℕ) → List ℕ → State → Type 0
-  Served old bytes texts more new = (lines : List (List ℕ)) × BeginsWithLines bytes lines more × Answers old lines texts new
+  Served old bytes texts more new = (lines : List (List ℕ)) × BeginsWithLines bytes lines more × AnswersLines old lines texts new
 
 module _ {State Seen : Type 0} (Step : State → List ℕ → List ℕ → State → Type 0) (Ends : State → List ℕ → Status → List ℕ → Seen → Type 0) (Leaves : State → Seen → Type 0) where
-  -- behind whole lines that are answered, and before more bytes, a line ends the run: the pieces are the texts and its last line
-  abbrev pub IsEnded : Type 0 → State → List ℕ → Seen → Status → List (List ℕ) → List ℕ → Type 0
-  IsEnded AreLast start bytes after status pieces more = (texts : List (List ℕ)) × (end : State) × (line : List ℕ) × (last : List ℕ) × Served Step start bytes texts more end
-      × IsNextLine AreLast more line × Ends end line status last after × (pieces ≡ texts ++ last ∷ [])
-
   -- What was due, piece by piece, by the words: for the bytes that were taken, what the input has left, what is seen of the store then, and a
   -- status.
   abbrev pub Due : Words → State → ℕ → Option (List ℕ) → List ℕ → Seen → Status → List (List ℕ) → Type 0
   -- the text for each line, the last one without a newline too: the input was read to its end, below the limit
   Due (Run segments) start limit left taken after Done pieces = (lines : List (List ℕ)) × (rest : List ℕ) × (end : State) × BeginsWithLines taken lines rest
-      × IsLine rest × (IsAtEnd left × (length taken < limit)) × Answers Step start (lines ++ last_line rest) pieces end × Leaves end after
+      × IsLine rest × (IsAtEnd left × (length taken < limit)) × AnswersLines Step start (lines ++ last_line rest) pieces end × Leaves end after
   -- the text for each whole line, then a last line on the fault
   Due (Run segments) start limit left taken after InputFault pieces = (texts : List (List ℕ)) × (rest : List ℕ) × (end : State) × Served Step start taken texts rest end
       × IsLine rest × (length taken < limit) × Leaves end after × (pieces ≡ texts ++ codes "! input fault\n" ∷ [])
@@ -77,7 +72,8 @@ module _ {State Seen : Type 0} (Step : State → List ℕ → List ℕ → State
   -- the text for each of some first lines
   Due (Run segments) start limit left taken after NoMemory pieces = (more : List ℕ) × (end : State) × Served Step start taken pieces more end × (length taken ≤ limit) × IsNear more × Leaves end after
   -- the text for each of some first lines, then the last line for the next one, which ends the run with this status
-  Due (Run segments) start limit left taken after status pieces = (more : List ℕ) × IsEnded (IsAtEnd left × (length taken < limit)) start taken after status pieces more
+  Due (Run segments) start limit left taken after status pieces = (more : List ℕ) × (texts : List (List ℕ)) × (end : State) × (line : List ℕ) × (last : List ℕ)
+      × Served Step start taken texts more end × IsNextLine (IsAtEnd left × (length taken < limit)) more line × Ends end line status last after × (pieces ≡ texts ++ last ∷ [])
       × (length taken ≤ limit) × IsNear more
   -- nothing is taken where the words are refused
   Due Refused start limit left taken after BadWords pieces = (taken ≡ []) × Leaves start after × (pieces ≡ codes "! bad words\n" ∷ [])
@@ -91,5 +87,5 @@ module _ {State Seen : Type 0} (Step : State → List ℕ → List ℕ → State
     pub text : List ℕ
     pub consumed : Consumes left left' taken
     pub appended : Appends written written' text
-    pub run : IsWritten (Due words start limit left' taken after) status text
+    pub run : IsTextWritten (Due words start limit left' taken after) status text
     pub cause : EndedBecause status input input' output output'

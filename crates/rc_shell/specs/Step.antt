@@ -13,14 +13,14 @@ use Rattle.rc_lines.specs.declared.commands.Command.{Command}
 use Rattle.rc_lines.specs.declared.commands.Command.TheVariants.{Nothing, SetSchema}
 use Rattle.rc_lines.specs.declared.commands.Figures.{Figures}
 use Rattle.rc_lines.specs.declared.commands.Refusal.{Refusal}
-use Rattle.rc_lines.specs.declared.commands.Refusal.TheVariants.{BadLine, ReadFault, WriteFault}
+use Rattle.rc_lines.specs.declared.commands.Refusal.TheVariants.{ReadFault, WriteFault}
 use Rattle.rc_lines.specs.declared.commands.Reply.{Reply}
 use Rattle.rc_lines.specs.declared.commands.Reply.TheVariants.{Fine}
 use Rattle.rc_lines.specs.Grammar.{parse}
 use Rattle.rc_folder.specs.Counting.{NoneFell, figures_in, is_answered}
 use Rattle.rc_spelling.specs.Words.{is_word}
 use Rattle.rc_lines.specs.Texts.{reply_text, refusal_text}
-use Rattle.rc_machine.specs.Built.{is_built}
+use Rattle.rc_machine.specs.Built.{served}
 use Rattle.rc_machine.specs.State.{State, Table, opened_state}
 use Rattle.rc_machine.specs.Serving.{most_asks, checks_of}
 use Rattle.rc_machine.specs.Steps.{Steps}
@@ -80,11 +80,6 @@ MayHaveAsked (Serving m) before now = now ≤ before + 2 * length m.infos
 abbrev pub LeavesStore : Moment → StoreView → Type 0
 LeavesStore now store = (store.0 ≡ files_of now.stage) × (now.faults ≤ store.1) × MayHaveAsked now.stage now.asks store.2
 
--- a line of a command that is not served is a bad line
-abbrev pub served : Result Command Refusal → Result Command Refusal
-served (Ok command) = if is_built command then Ok command else Err BadLine
-served (Err refusal) = Err refusal
-
 -- what a line means at a stage: under the schema that was taken, if one was
 abbrev pub meaning_at : Stage → List ℕ → Result Command Refusal
 meaning_at (Waiting files) line = served (parse None line)
@@ -107,18 +102,13 @@ MayAsk (Waiting files) (Ok (SetSchema schema)) bound = IfSome files (λ told. bo
 MayAsk (Serving m) (Ok command) bound = bound ≡ most_asks m.infos command
 MayAsk stage meaning bound = bound ≡ 0
 
--- one more where that is so
-abbrev pub one_if : Bool → ℕ
-one_if more = if more then 1 else 0
-
 -- What `stats` lines go by after a line, by its meaning and the machine's reply, where the store had been asked for so many ranges before and after it:
 -- a schema line that opens the machine begins anew, and an answer is counted by whether it asked for any.
 abbrev pub told_after : Stage → Result Command Refusal → Option Reply → ℕ → ℕ → Statistics → Statistics
 told_after (Waiting files) (Ok (SetSchema schema)) reply before after told = nothing_told after
-told_after (Serving m) (Ok command) (Some reply) before after told = record {
-  opened = told.opened;
-  hits = told.hits + one_if (is_answered command reply && nat_eq before after);
-  misses = told.misses + one_if (is_answered command reply && not (nat_eq before after));
+told_after (Serving m) (Ok command) (Some reply) before after told = record told {
+  hits = if is_answered command reply && nat_eq before after then told.hits + 1 else told.hits;
+  misses = if is_answered command reply && not (nat_eq before after) then told.misses + 1 else told.misses;
   last = option_or (figures_in command reply) told.last;
 }
 told_after stage meaning reply before after told = told
@@ -130,11 +120,6 @@ pub record MayBeTold (asked : ℕ) (told : Statistics) (figures : Figures) : Typ
   pub misses : figures.misses ≡ min told.misses (2 ^ 64 - 1)
   pub asks : figures.asks ≡ asked - told.opened
   pub none_fell : IfSome told.last (λ last. NoneFell last figures)
-
--- so of the figures of a line's reply, where that is one to `stats`
-abbrev pub TellsFigures : Result Command Refusal → Option Reply → ℕ → Statistics → Type 0
-TellsFigures (Ok command) (Some reply) asks told = IfSome (figures_in command reply) (MayBeTold asks told)
-TellsFigures meaning reply asks told = ⊤
 
 -- whether a reply's text tells a fault of the store
 abbrev pub tells_fault : List ℕ → Bool
@@ -149,7 +134,7 @@ pub record LineStep (old : Moment) (line text : List ℕ) (new : Moment) : Type 
   pub asks : (bound : ℕ) × MayAsk old.stage (meaning_at old.stage line) bound × (new.bound ≡ old.bound + bound) × (new.asks ≤ old.asks + bound)
   pub segments : new.segments ≡ old.segments
   pub told : new.told ≡ told_after old.stage (meaning_at old.stage line) reply old.asks new.asks old.told
-  pub figures : TellsFigures (meaning_at old.stage line) reply old.asks old.told
+  pub figures : (command : Command) (answer : Reply) → meaning_at old.stage line ≡ Ok command → reply ≡ Some answer → IfSome (figures_in command answer) (MayBeTold old.asks old.told)
 
 -- the last line where a table is bad: it is damaged at an offset, or has another schema
 unfoldable pub bad_table : ℕ → Option ℕ → List ℕ

@@ -25,7 +25,7 @@ use Rattle.rc_mutation.specs.Fragments.{begins_at, changes_of, placed_change, pl
 use Rattle.rc_mutation.specs.Rows.{joined_rows, IsRows}
 use Rattle.rc_mutation.specs.laws.JoinedRows.{joined_rows-append, joined_rows-rows}
 use Rattle.rc_mutation.specs.laws.FragMerge.{merge, merge_into, fragment_of}
-use Rattle.rc_tables.specs.calls.Rebuilt.{AllWritten, changes_among, pieces_between, rows_among}
+use Rattle.rc_tables.specs.calls.Rebuilt.{NoRowIsEmpty, changes_among, pieces_between, rows_among}
 use Rattle.rc_tables.proofs.Listing.{between-merge}
 
 abbrev Keyed : Type 0
@@ -118,7 +118,7 @@ ranges_between m is = ap (λ cs. pieces_between cs None) (changes_between m is) 
 
 -- ---- one row more
 
-pub written_behind : (xs ys : List (List Comp × Row)) → AllWritten (xs ++ ys) → AllWritten ys
+pub written_behind : (xs ys : List (List Comp × Row)) → NoRowIsEmpty (xs ++ ys) → NoRowIsEmpty ys
 written_behind [] ys h = h
 written_behind (x ∷ xs) ys h = written_behind xs ys (λ k d lt. h (suc k) d (omega arith))
 
@@ -139,7 +139,7 @@ pub front_first : (x : Frag) (xs : List Frag) → 1 ≤ length xs → x ≡ get_
 front_first x [] n e = absurd (omega (arith, n))
 front_first x (y ∷ ys) n e = ap (λ z. z ∷ ys) (sym e)
 
-written_front : (xs ys : List (List Comp × Row)) → AllWritten (xs ++ ys) → AllWritten xs
+written_front : (xs ys : List (List Comp × Row)) → NoRowIsEmpty (xs ++ ys) → NoRowIsEmpty xs
 written_front [] ys h k d lt = absurd (omega (arith, lt))
 written_front (x ∷ xs) ys h zero d lt = h 0 x (omega arith)
 written_front (x ∷ xs) ys h (suc k) d lt = written_front xs ys (λ j e l. h (suc j) e (omega (arith, l))) k d (omega (arith, lt))
@@ -148,13 +148,13 @@ rows_first : (x : Frag) (xs : List Frag) → 1 ≤ length xs → x ≡ get_or xs
 rows_first x xs n e = ap rows_among (front_first x xs n e) ∙ rows_among-first x (drop 1 xs)
 
 -- the first of those that are left was written
-pub first_written : (x : Frag) (xs : List Frag) → 1 ≤ length xs → x ≡ get_or xs 0 x → AllWritten (rows_among xs) → AllWritten (rows_among (x ∷ []))
-first_written x xs n e h = written_front (rows_among (x ∷ [])) (rows_among (drop 1 xs)) (subst (λ (rs : List (List Comp × Row)). AllWritten rs) (rows_first x xs n e) h)
+pub first_written : (x : Frag) (xs : List Frag) → 1 ≤ length xs → x ≡ get_or xs 0 x → NoRowIsEmpty (rows_among xs) → NoRowIsEmpty (rows_among (x ∷ []))
+first_written x xs n e h = written_front (rows_among (x ∷ [])) (rows_among (drop 1 xs)) (subst (λ (rs : List (List Comp × Row)). NoRowIsEmpty rs) (rows_first x xs n e) h)
 
 -- the first of those that are left was joined
 pub one_joined : (all xs : List Frag) (x : Frag) (rows more : List (List Comp × Row)) → 1 ≤ length xs → x ≡ get_or xs 0 x → joined_rows more ≡ joined_rows (rows ++ rows_among (x ∷ []))
-    → (joined_rows (rows ++ rows_among xs) ≡ joined_rows (rows_among all)) × (AllWritten (rows_among all) → AllWritten (rows_among xs))
-    → (joined_rows (more ++ rows_among (take (length xs - 1) (drop 1 xs))) ≡ joined_rows (rows_among all)) × (AllWritten (rows_among all) → AllWritten (rows_among (take (length xs - 1) (drop 1 xs))))
+    → (joined_rows (rows ++ rows_among xs) ≡ joined_rows (rows_among all)) × (NoRowIsEmpty (rows_among all) → NoRowIsEmpty (rows_among xs))
+    → (joined_rows (more ++ rows_among (take (length xs - 1) (drop 1 xs))) ≡ joined_rows (rows_among all)) × (NoRowIsEmpty (rows_among all) → NoRowIsEmpty (rows_among (take (length xs - 1) (drop 1 xs))))
 one_joined all xs x rows more n e joined so_far =
     let rest = drop 1 xs in
     let split = rows_first x xs n e in
@@ -162,8 +162,8 @@ one_joined all xs x rows more n e joined so_far =
     joined_before more (rows ++ rows_among (x ∷ [])) (rows_among rest) joined
     ∙ ap joined_rows (append_assoc rows (rows_among (x ∷ [])) (rows_among rest) ∙ ap (λ t. rows ++ t) (sym split))
     ∙ so_far.0 in
-    let written : AllWritten (rows_among all) → AllWritten (rows_among rest) = λ h. written_behind (rows_among (x ∷ [])) (rows_among rest) (subst (λ (rs : List (List Comp × Row)). AllWritten rs) split (so_far.1 h)) in
-    subst (λ (t : List Frag). (joined_rows (more ++ rows_among t) ≡ joined_rows (rows_among all)) × (AllWritten (rows_among all) → AllWritten (rows_among t))) (sym (take_rest xs 1)) (same, written)
+    let written : NoRowIsEmpty (rows_among all) → NoRowIsEmpty (rows_among rest) = λ h. written_behind (rows_among (x ∷ [])) (rows_among rest) (subst (λ (rs : List (List Comp × Row)). NoRowIsEmpty rs) split (so_far.1 h)) in
+    subst (λ (t : List Frag). (joined_rows (more ++ rows_among t) ≡ joined_rows (rows_among all)) × (NoRowIsEmpty (rows_among all) → NoRowIsEmpty (rows_among t))) (sym (take_rest xs 1)) (same, written)
 
 none_over : (xs : List Frag) → length xs < 1 → xs ≡ []
 none_over [] h = refl

@@ -1,6 +1,6 @@
 -- Rows and changes that come one behind another are those of a partition of the schema.
 use Rattle.std.proofs.Common.{◌≡◌, ℕ, ◌≤◌, List, [], ◌∷◌, ◌++◌, length, get_or, drop, Option, Some, None, sym, ap, ◌∙◌, subst}
-use Rattle.std.specs.Prelude.{◌↔◌, ◌&&◌, IfOk, IfSome, IsTrue, Result, Ok, Err, is_none}
+use Rattle.std.specs.Prelude.{◌↔◌, ◌&&◌, IfOk, IfSome, IsTrue, Result, Ok, Err, is_none, ⊤}
 use Rattle.std.specs.declared.alloc.AllocError.{AllocError}
 use Rattle.std.specs.List.{flat_map, AllByRecursion}
 use Rattle.std.specs.Option.{option_map}
@@ -15,7 +15,8 @@ use Rattle.rc_mutation.specs.declared.fragments.Frag.{Frag}
 use Rattle.rc_mutation.specs.declared.fragments.Frag.TheVariants as frag
 use Rattle.rc_mutation.specs.declared.mutations.Mutation.{Mutation}
 use Rattle.rc_mutation.specs.Source.{IsMutation, has_cells_alone}
-use Rattle.rc_mutation.specs.Canonical.{IsCanonicalList, IsMutationOf}
+use Rattle.rc_mutation.specs.Canonical.{IsBounded, IsCanonicalList, IsMutationOf}
+use Rattle.rc_mutation.specs.laws.CanonicalListed.{listed}
 use Rattle.rc_mutation.specs.Fragments.{tomb_after, rows_and_changes}
 use Rattle.rc_stream.specs.Merging.{place_of}
 use Rattle.rc_tfile.specs.declared.reading.Part.{Part}
@@ -23,8 +24,9 @@ use Rattle.rc_cell.specs.Columns.{ascending}
 use Rattle.rc_tfile.specs.Items.{IsItem, PartItem, item_code}
 use Rattle.rc_writes.specs.Allowed.{ChangeFits, IsRangeBound, IsRowOf, IsStaticOf}
 use Rattle.rc_tfile.specs.laws.Follows.{all_of}
-use Rattle.rc_tables.specs.Rebuilt.{AllCome, ArePartItems, MayCome}
-use Rattle.rc_tables.specs.calls.Rebuilt.{IsSpellable, open_range, changes_among, ended, frag_code, pieces_between, rows_among}
+use Rattle.rc_tfile.specs.laws.Standing.{clustered_so}
+use Rattle.rc_tables.specs.Located.{ArePartItems, SaysOf}
+use Rattle.rc_tables.specs.calls.Rebuilt.{AllCome, MayCome, IsSpellable, open_range, changes_among, ended, frag_code, pieces_between, rows_among}
 use Rattle.rc_tables.proofs.Apart.{front_first, ranges_between, rows_between}
 use Rattle.rc_tables.proofs.Spelled.{IsPartBytes, IsPartItem, code_of_part, items_spelled}
 
@@ -97,6 +99,29 @@ change_fits schema m is statics h = record {
   ranges = all_of (IsPieceHere schema) m.ranges (subst (λ o. IfSome o (AllByRecursion (IsPieceHere schema))) (ranges_between m is) (come_pieces schema (changes_among (rows_and_changes m)) None tt (come_changes schema None None (rows_and_changes m) h)));
 }
 
+-- what fits the schema comes so
+module _ (schema : SchemaValue) where
+  abbrev IsFragHere : Frag → Type 0
+  IsFragHere (frag.Start pt) = ⊤
+  IsFragHere (frag.Static row) = ⊤
+  IsFragHere (frag.Row key row) = IsRowOf schema key row
+  IsFragHere (frag.Change x next) = IsRangeBound schema x
+  IsFragHere frag.End = ⊤
+
+  canonical_comes : (tomb : Option Tomb) (last : Option Pos) (fs : List Frag) → IsCanonicalList tomb last fs → AllByRecursion IsFragHere fs → AllCome schema tomb last fs
+  canonical_comes tomb last [] c h = c
+  canonical_comes tomb last (frag.Start pt ∷ fs) c h = absurd c
+  canonical_comes tomb last (frag.Static row ∷ fs) c h = absurd c
+  canonical_comes tomb last (frag.Row key row ∷ fs) c h = ((c.0, c.1, h.0), canonical_comes tomb (Some (row_pos key)) fs c.3 h.1)
+  canonical_comes tomb last (frag.Change x next ∷ fs) c h = ((c.0, c.2, h.0), canonical_comes next (Some x) fs c.3 h.1)
+  canonical_comes tomb last (frag.End ∷ fs) c h = absurd c
+
+  pub comes : (m : Mutation) → SaysOf schema m → AllCome schema None None (rows_and_changes m)
+  comes m says =
+      let fits = says.1 in
+      let bounded : IsBounded m.ranges = λ k d lt. (let q = fits.ranges k d lt in (q.0.0, q.1.0)) in
+      canonical_comes None None (rows_and_changes m) (listed m says.0 bounded) (clustered_so IsFragHere m says.0 fits.rows (λ k d lt. (let q = fits.ranges k d lt in (λ tomb. q.0, λ tomb. q.1))))
+
 -- ---- what is read of bytes
 
 -- the law that a canonical list is that of a mutation
@@ -126,9 +151,7 @@ module _ (schema : SchemaValue) (key bytes : List ℕ) (part : Part) (size : ℕ
       let m = there.1 in
       let items = items_spelled bytes key there.0 m.is_mutation part_bytes_there in
       record {
-        mutation = m.is_mutation;
-        statics = subst (IsStaticOf schema) (sym m.statics) statics;
-        come = subst (AllCome schema None None) (sym m.rows_and_changes) come;
+        says = (m.is_mutation, change_fits schema there.0 m.is_mutation (subst (IsStaticOf schema) (sym m.statics) statics) (subst (AllCome schema None None) (sym m.rows_and_changes) come));
         items = items.0;
         spelled = items.1;
       }

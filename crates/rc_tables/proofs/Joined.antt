@@ -15,11 +15,12 @@ use Rattle.rc_mutation.specs.laws.Sources.{IsJoinOf-none, IsJoinOf-more}
 use Rattle.rc_tfile.specs.declared.info.PartRef.{PartRef}
 use Rattle.rc_tfile.specs.declared.info.TableInfo.{TableInfo}
 use Rattle.rc_tfile.specs.laws.Follows.{all_append}
-use Rattle.rc_tables.specs.Located.{SaysOf, WhereTold}
+use Rattle.rc_stream.specs.Showing.{IsNamed}
+use Rattle.rc_tables.specs.Located.{Contradicts, SaysOf, WhereTold}
 use Rattle.rc_tables.specs.calls.Located.{IsLocatedOf}
 use Rattle.rc_stream.specs.declared.streams.StreamErr.{StreamErr}
 use Rattle.rc_stream.specs.declared.streams.StreamErr.TheVariants.{Fault, Damaged, NoMemory}
-use Rattle.rc_tables.specs.Tables.{AreHeld, HoldsTables, IsDamageIn, IsDamageOf, changes_at, changes_in, listing}
+use Rattle.rc_tables.specs.Tables.{AreHeld, HoldsTables, IsDamageOf, changes_at, changes_in, listing}
 use Rattle.rc_tables.specs.calls.Tables.{JoinsSome}
 use Rattle.rc_tables.proofs.Places.{key_is}
 use Rattle.rc_tables.proofs.Searching.{keys_ascend, none_there, located, dir_is}
@@ -144,7 +145,8 @@ damage_behind schema key info infos Fault d = tt
 damage_behind schema key info infos (Damaged file offset) d = inr d
 damage_behind schema key info infos NoMemory d = tt
 
-pub damage_one : (schema : SchemaValue) (key : List ℕ) (info : TableInfo) (e : StreamErr) → IsDamageIn schema key info e → IsDamageOf schema key (info ∷ []) e
-damage_one schema key info Fault d = tt
-damage_one schema key info (Damaged file offset) d = inl d
-damage_one schema key info NoMemory d = tt
+pub damage_one : (schema : SchemaValue) (key : List ℕ) (info : TableInfo) (e : StreamErr) (dir i : ℕ) (here : PartRef) (later : List PartRef) → drop i info.parts ≡ here ∷ later → here.key ≡ key
+    → IsNamed (Contradicts schema info.number dir here later) e → IsDamageOf schema key (info ∷ []) e
+damage_one schema key info Fault dir i here later there listed d = tt
+damage_one schema key info (Damaged file offset) dir i here later there listed d = inl (dir, i, here, later, there, listed, d)
+damage_one schema key info NoMemory dir i here later there listed d = tt

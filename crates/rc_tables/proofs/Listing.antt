@@ -19,8 +19,8 @@ use Rattle.rc_mutation.specs.Fragments.{changes_of, fragments, is_written, place
 use Rattle.rc_mutation.specs.laws.FragMerge.{merge, merge_into, merge-in_order, fragment_of, rows-placed, changes-placed}
 use Rattle.rc_stream.specs.Stream.{is_clustered}
 use Rattle.rc_tfile.specs.Items.{PartItem, RowItem, ChangeItem, EndItem, item_code}
-use Rattle.rc_tfile.specs.Before.{ItemsBefore, offset, followed_by, last_key}
-use Rattle.rc_tfile.specs.Blocks.{DirectoryEntry, entries, entry_items, blocks, part_offset}
+use Rattle.rc_tfile.specs.Before.{ItemsBefore, offset, followed_by, last_part}
+use Rattle.rc_tfile.specs.Blocks.{DirectoryEntry, entries, entry_items, blocks}
 use Rattle.rc_tfile.specs.Info.{refs_from}
 use Rattle.rc_tfile.specs.TableText.{frag_items, part_items}
 use Rattle.rc_tfile.specs.laws.Follows.{followed_by-append}
@@ -94,21 +94,13 @@ entries-inner (frag.Row key row ∷ fs) h c = entries-inner fs h.1 (RowItem key 
 entries-inner (frag.Change x tomb ∷ fs) h c = entries-inner fs h.1 (ChangeItem x tomb ∷ c)
 entries-inner (frag.End ∷ fs) h c = absurd (let e = h.0 in cc)
 
-last_key-inner : (fs : List Frag) → Inner fs → (c : ItemsBefore) → last_key (followed_by c (flat_map frag_items fs)) ≡ last_key c
-last_key-inner [] h c = refl
-last_key-inner (frag.Start pt ∷ fs) h c = absurd (let e = h.0 in cc)
-last_key-inner (frag.Static row ∷ fs) h c = absurd (let e = h.0 in cc)
-last_key-inner (frag.Row key row ∷ fs) h c = last_key-inner fs h.1 (RowItem key row ∷ c)
-last_key-inner (frag.Change x tomb ∷ fs) h c = last_key-inner fs h.1 (ChangeItem x tomb ∷ c)
-last_key-inner (frag.End ∷ fs) h c = absurd (let e = h.0 in cc)
-
-part_offset-inner : (fs : List Frag) → Inner fs → (c : ItemsBefore) → part_offset (followed_by c (flat_map frag_items fs)) ≡ part_offset c
-part_offset-inner [] h c = refl
-part_offset-inner (frag.Start pt ∷ fs) h c = absurd (let e = h.0 in cc)
-part_offset-inner (frag.Static row ∷ fs) h c = absurd (let e = h.0 in cc)
-part_offset-inner (frag.Row key row ∷ fs) h c = part_offset-inner fs h.1 (RowItem key row ∷ c)
-part_offset-inner (frag.Change x tomb ∷ fs) h c = part_offset-inner fs h.1 (ChangeItem x tomb ∷ c)
-part_offset-inner (frag.End ∷ fs) h c = absurd (let e = h.0 in cc)
+last_part-inner : (fs : List Frag) → Inner fs → (c : ItemsBefore) → last_part (followed_by c (flat_map frag_items fs)) ≡ last_part c
+last_part-inner [] h c = refl
+last_part-inner (frag.Start pt ∷ fs) h c = absurd (let e = h.0 in cc)
+last_part-inner (frag.Static row ∷ fs) h c = absurd (let e = h.0 in cc)
+last_part-inner (frag.Row key row ∷ fs) h c = last_part-inner fs h.1 (RowItem key row ∷ c)
+last_part-inner (frag.Change x tomb ∷ fs) h c = last_part-inner fs h.1 (ChangeItem x tomb ∷ c)
+last_part-inner (frag.End ∷ fs) h c = absurd (let e = h.0 in cc)
 
 -- what the directory lists of a partition behind these items
 abbrev pub entry_of : ItemsBefore → Partition → DirectoryEntry
@@ -118,13 +110,11 @@ entry_of b p = record { key = p.key; off = offset b; blocks = blocks (inside b p
 abbrev pub directory_entry_size : DirectoryEntry → ℕ
 directory_entry_size e = length (flat_map item_code (entry_items e))
 
-entry_is : (b : ItemsBefore) (p : Partition) → IsMutation p.change → (let e : DirectoryEntry = record { key = unwrap_or (last_key (inside b p)) []; off = part_offset (inside b p); blocks = blocks (inside b p) } in e) ≡ entry_of b p
+entry_is : (b : ItemsBefore) (p : Partition) → IsMutation p.change → (let part = unwrap_or (last_part (inside b p)) ([], 0) in let e : DirectoryEntry = record { key = part.0; off = part.1; blocks = blocks (inside b p) } in e) ≡ entry_of b p
 entry_is b p is =
     let begun = PartItem p.key p.change.pt p.change.statics ∷ b in
-    let inner = between-inner p.change is in
-    let key : unwrap_or (last_key (inside b p)) [] ≡ p.key = ap (λ k. unwrap_or k []) (last_key-inner (rows_and_changes p.change) inner begun) in
-    let off : part_offset (inside b p) ≡ offset b = part_offset-inner (rows_and_changes p.change) inner begun in
-    λ i. record { key = key i; off = off i; blocks = blocks (inside b p) }
+    let part : unwrap_or (last_part (inside b p)) ([], 0) ≡ (p.key, offset b) = ap (λ o. unwrap_or o ([], 0)) (last_part-inner (rows_and_changes p.change) (between-inner p.change is) begun) in
+    λ i. record { key = (part i).0; off = (part i).1; blocks = blocks (inside b p) }
 
 one_entry : (b : ItemsBefore) (p : Partition) → IsMutation p.change → entries (followed_by b (part_items p)) ≡ entries b ++ entry_of b p ∷ []
 one_entry b p is =

@@ -23,7 +23,7 @@ use Rattle.rc_tfile.specs.laws.Follows.{followed_by-append, text-followed_by, by
 use Rattle.rc_tfile.specs.laws.Drafts.{parts_of, body_is}
 use Rattle.rc_tables.specs.Located.{IsEntryAt, EndsAt, MayLie, glimpsed}
 use Rattle.rc_tables.specs.calls.Located.{IsLocated, IsSpan}
-use Rattle.rc_tables.specs.Rebuilt.{AllCome}
+use Rattle.rc_tables.specs.calls.Rebuilt.{AllCome}
 use Rattle.rc_mutation.specs.Fragments.{rows_and_changes}
 use Rattle.rc_tables.specs.laws.Ascending.{front_fits}
 use Rattle.rc_tables.proofs.Listing.{directory_entry_size, Inner, between-inner, items_of, entry_of, entries_behind, entries_are, entries_behind-append, length-entries, listing, listing-append, refs_from-append, length-refs}

@@ -12,15 +12,14 @@ use Rattle.rc_tfile.specs.Items.{item_code, offset_code, IsItem, bytes_code, IsP
 use Rattle.rc_tfile.specs.Reading.{Starts}
 use Rattle.rc_schema.specs.SchemaValue.{SchemaValue}
 use Rattle.rc_stream.specs.declared.streams.StreamErr.{StreamErr}
-use Rattle.rc_writes.specs.Allowed.{IsStaticOf}
+use Rattle.rc_writes.specs.Allowed.{ChangeFits}
 use Rattle.rc_tfile.specs.TableText.{part_items}
 use Rattle.rc_tfile.specs.Before.{offset}
 use Rattle.rc_tfile.specs.laws.Starting.{key_free, rest_of}
 use Rattle.std.proofs.lemmas.Nat.{from_le_bytes-to_le_bytes_8}
 use Rattle.rc_tables.specs.declared.locating.Span.{Span}
-use Rattle.rc_tables.specs.Located.{IsEntryAt, EndsAt, MayLie, SaysNoPart, SaysNoSpan, SaysOf, SaysSpan, glimpsed, WhereTold}
+use Rattle.rc_tables.specs.Located.{ArePartItems, IsEntryAt, EndsAt, MayLie, SaysNoPart, SaysNoSpan, SaysOf, SaysSpan, glimpsed, WhereTold}
 use Rattle.rc_tables.specs.calls.Located.{IsLocated, IsLocatedOf, IsSpan}
-use Rattle.rc_tables.specs.Rebuilt.{AllCome, ArePartItems}
 use Rattle.rc_tables.specs.calls.Rebuilt.{number_at_front}
 use Rattle.rc_mutation.specs.Fragments.{rows_and_changes}
 use Rattle.rc_tables.proofs.Places.{where_from, where_to, begins_there, ends_there, in_order, lies_there, reads_within, key_is, is_mutation, items_there, comes_there}
@@ -124,10 +123,9 @@ part_there files schema n at here behind p from to piece of span size read =
     let is = of.0 in
     let key = sym (key_is files n at here behind p is) in
     let come = comes_there files n at here behind p is in
+    let mutation = is_mutation files n at here behind p is in
     record {
-      mutation = is_mutation files n at here behind p is;
-      statics = subst (λ z. IsStaticOf z p.change.statics) of.1 come.0;
-      come = subst (λ z. AllCome z None None (rows_and_changes p.change)) of.1 come.1;
+      says = (mutation, subst (λ z. ChangeFits z p.change) of.1 (change_fits is.schema p.change mutation come.0 come.1));
       items = subst (λ k. AllByRecursion IsItem (part_items (record { key = k; change = p.change }))) key (items_there files n at here behind p is);
       spelled = span_read files n from to p piece span (omega (arith, size, span.ends)) read ∙ ap (λ k. flat_map item_code (part_items (record { key = k; change = p.change }))) key;
     }
@@ -159,4 +157,4 @@ pub no_part : (schema : SchemaValue) (at : ℕ) (here : PartRef) (behind : List 
 no_part schema at here behind from to bytes found said count exact there = record { to = to; said = said; bytes = bytes; count = count; none = λ m p. absurd (let q = sym there ∙ (exact m).1 p in cc) }
 
 pub says : (schema : SchemaValue) (key bytes : List ℕ) (m : Mutation) → ArePartItems schema key m bytes → SaysOf schema m
-says schema key bytes m p = (p.mutation, change_fits schema m p.mutation p.statics p.come)
+says schema key bytes m p = p.says

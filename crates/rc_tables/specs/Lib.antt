@@ -1,4 +1,3 @@
-pub mod Rebuilt
 pub mod Located
 pub mod Tables
 pub mod Streams

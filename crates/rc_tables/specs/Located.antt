@@ -1,16 +1,14 @@
--- Where a partition lies in a table file.
+-- Where a partition lies in a table file, what a table can say of it, and when bytes contradict the table as it was checked.
 use Rattle.std.specs.Prelude.{◌≡◌, ◌⊎◌, ℕ, ◌+◌, ◌-◌, ◌<◌, ◌≤◌, ◌^◌, min, List, [], ◌∷◌, ◌++◌, length, drop, Option, Some, None, ⊤}
+use Rattle.std.specs.List.{flat_map, AllByRecursion}
 use Rattle.rc_outside.specs.Files.{Files}
 use Rattle.rc_schema.specs.SchemaValue.{SchemaValue}
 use Rattle.rc_mutation.specs.Source.{IsMutation}
 use Rattle.rc_tfile.specs.declared.info.PartRef.{PartRef}
-use Rattle.rc_tfile.specs.Items.{item_code, EntryItem}
-use Rattle.rc_tfile.specs.Before.{offset}
+use Rattle.rc_tfile.specs.Items.{item_code, EntryItem, IsItem}
+use Rattle.rc_tfile.specs.TableText.{part_items}
 use Rattle.rc_mutation.specs.declared.mutations.Mutation.{Mutation}
-use Rattle.rc_stream.specs.declared.streams.StreamErr.{StreamErr}
-use Rattle.rc_stream.specs.declared.streams.StreamErr.TheVariants.{Damaged}
 use Rattle.rc_writes.specs.Allowed.{ChangeFits}
-use Rattle.rc_tables.specs.Rebuilt.{ArePartItems}
 
 -- so much is owed where the files are told
 abbrev pub WhereTold : Option Files → Type 0 → Type 0
@@ -39,6 +37,12 @@ MayLie dir from to = (from ≤ to) × (to < dir)
 abbrev pub SaysOf : SchemaValue → Mutation → Type 0
 SaysOf schema m = IsMutation m × ChangeFits schema m
 
+-- bytes are the items of a key's part: they say what a table of the schema can hold, each within the limits
+pub record ArePartItems (schema : SchemaValue) (key : List ℕ) (m : Mutation) (bytes : List ℕ) : Type 0 where
+  pub says : SaysOf schema m
+  pub items : AllByRecursion IsItem (part_items (record { key = key; change = m }))
+  pub spelled : bytes ≡ flat_map item_code (part_items (record { key = key; change = m }))
+
 -- bytes of the directory, as many as are read, contradict the table as checked: they do not say where the items of a partition lie
 pub record SaysNoSpan (dir : ℕ) (here : PartRef) (later : List PartRef) : Type 0 where
   pub piece : List ℕ
@@ -62,8 +66,7 @@ pub record SaysNoPart (schema : SchemaValue) (dir : ℕ) (here : PartRef) (later
   pub count : length bytes ≡ to - from
   pub none : (m : Mutation) → ArePartItems schema here.key m bytes → ⊥
 
--- Damaged names file n, and where bytes begin that were read and contradict the table as checked: what its directory says of a partition, or
--- the items of the partition
-abbrev pub Contradicts : SchemaValue → ℕ → ℕ → PartRef → List PartRef → StreamErr → Type 0
-Contradicts schema n dir here later (Damaged file offset) = (file ≡ n) × (((offset ≡ here.dir_off) × SaysNoSpan dir here later) ⊎ SaysNoPart schema dir here later offset)
-Contradicts schema n dir here later e = ⊤
+-- a file is file n, and from an offset on bytes that were read contradict the table as checked: what its directory says of a partition, or the items of
+-- the partition
+abbrev pub Contradicts : SchemaValue → ℕ → ℕ → PartRef → List PartRef → ℕ → ℕ → Type 0
+Contradicts schema n dir here later file offset = (file ≡ n) × (((offset ≡ here.dir_off) × SaysNoSpan dir here later) ⊎ SaysNoPart schema dir here later offset)

@@ -15,7 +15,7 @@ use Rattle.rc_mutation.specs.Fragments.{fragments}
 use Rattle.rc_mutation.specs.Source.{IsJoinOf, IsMutation}
 use Rattle.rc_stream.specs.Stream.{Stream, stream_of}
 use Rattle.rc_stream.specs.declared.streams.StreamErr.{StreamErr}
-use Rattle.rc_stream.specs.declared.streams.StreamErr.TheVariants.{Damaged}
+use Rattle.rc_stream.specs.Showing.{IsNamed}
 use Rattle.rc_tfile.specs.declared.info.PartRef.{PartRef}
 use Rattle.rc_tfile.specs.declared.info.TableInfo.{TableInfo}
 use Rattle.rc_tfile.specs.Checking.{IsContent}
@@ -73,16 +73,16 @@ pub record IsSomeJoin (schema : SchemaValue) (infos : List TableInfo) (key : Lis
   pub count : length changes ≤ listing key infos
   pub fit : AllByRecursion (SaysOf schema) changes
 
--- Damaged names a table that lists the key; bytes that were read of it contradict it as checked
-abbrev pub IsDamageIn : SchemaValue → List ℕ → TableInfo → StreamErr → Type 0
-IsDamageIn schema key info e = (dir : ℕ) × (i : ℕ) × (here : PartRef) × (later : List PartRef) × (drop i info.parts ≡ here ∷ later) × (here.key ≡ key) × Contradicts schema info.number dir here later e
+-- bytes of a table that lists the key contradict it as checked: those that begin at an offset of a file
+abbrev pub IsDamageIn : SchemaValue → List ℕ → TableInfo → ℕ → ℕ → Type 0
+IsDamageIn schema key info file offset =
+    (dir : ℕ) × (i : ℕ) × (here : PartRef) × (later : List PartRef) × (drop i info.parts ≡ here ∷ later) × (here.key ≡ key) × Contradicts schema info.number dir here later file offset
 
--- of some table of a set this holds
-abbrev pub InSome : (TableInfo → Type 0) → List TableInfo → Type 0
-InSome P [] = ⊥
-InSome P (info ∷ infos) = P info ⊎ InSome P infos
+-- so do bytes of some table of a set
+abbrev pub IsDamageAmong : SchemaValue → List ℕ → List TableInfo → ℕ → ℕ → Type 0
+IsDamageAmong schema key [] file offset = ⊥
+IsDamageAmong schema key (info ∷ infos) file offset = IsDamageIn schema key info file offset ⊎ IsDamageAmong schema key infos file offset
 
 -- where Damaged is answered of a key, it names some table of the set that lists it
 abbrev pub IsDamageOf : SchemaValue → List ℕ → List TableInfo → StreamErr → Type 0
-IsDamageOf schema key infos (Damaged file offset) = InSome (λ info. IsDamageIn schema key info (Damaged file offset)) infos
-IsDamageOf schema key infos e = ⊤
+IsDamageOf schema key infos = IsNamed (IsDamageAmong schema key infos)

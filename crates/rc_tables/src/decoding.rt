@@ -15,8 +15,8 @@ ghost use Rattle.rc_mutation.specs.Fragments.{tomb_after};
 ghost use Rattle.rc_stream.specs.Merging.{place_of};
 ghost use Rattle.rc_writes.specs.Allowed.{IsRangeBound, IsRowOf, IsStaticOf};
 ghost use Rattle.rc_tfile.specs.Items.{ChangeItem, item_code, IsItem, RowItem};
-ghost use Rattle.rc_tables.specs.Rebuilt.{AllCome, ArePartItems, MayCome};
-ghost use Rattle.rc_tables.specs.calls.Rebuilt.{frag_code, IsSpellable};
+ghost use Rattle.rc_tables.specs.Located.{ArePartItems};
+ghost use Rattle.rc_tables.specs.calls.Rebuilt.{AllCome, frag_code, IsSpellable, MayCome};
 
 use crate::rebuilding::mutation_of;
 use rc_cell::{Row, Tomb};

@@ -4,6 +4,7 @@ ghost use Rattle.std.specs.Prelude.{◌≡◌, ◌≤◌, ◌+◌, ◌∷◌, If
 ghost use Rattle.rc_outside.specs.Files.{HoldsSameFiles};
 ghost use Rattle.rc_mutation.specs.declared.mutations.Partition.{Partition};
 ghost use Rattle.rc_stream.specs.Causes.{Caused};
+ghost use Rattle.rc_stream.specs.Showing.{IsNamed};
 ghost use Rattle.rc_tables.specs.Located.{Contradicts, SaysOf, WhereTold};
 ghost use Rattle.rc_tables.specs.calls.Located.{IsLocatedOf};
 
@@ -31,7 +32,7 @@ pub(crate) fn read_partition<W: Store>(
     requires { WhereTold (W.files store.old) ((p : Partition) × IsLocatedOf (W.files store.old) schema.now n dir (here.now ∷ later.now) p) }
     ensures change { (p : Partition) → IsLocatedOf (W.files store.old) schema.now n dir (here.now ∷ later.now) p → IfOk result (λ m. m ≡ p.change) }
     ensures fits { IfOk result (SaysOf schema.now) }
-    ensures damaged { IfErr result (Contradicts schema.now n dir here.now later.now) }
+    ensures damaged { IfErr result (IsNamed (Contradicts schema.now n dir here.now later.now)) }
     ensures cause { Caused result (W.files store.old) (W.faults store.old) (W.faults store.new) }
     ensures store { HoldsSameFiles W.files W.building store.old store.new }
     ensures asks { W.asks store.new ≤ W.asks store.old + 2 }

@@ -8,7 +8,7 @@ ghost use Rattle.rc_ranges.specs.Cover.{IsCanonical, MayFollow};
 ghost use Rattle.rc_mutation.specs.declared.mutations.Mutation.{Mutation};
 ghost use Rattle.rc_mutation.specs.Rows.{IsRows, joined_rows};
 ghost use Rattle.rc_mutation.specs.Source.{IsMutation};
-ghost use Rattle.rc_tables.specs.calls.Rebuilt.{AllWritten, open_range, changes_among, ended, pieces_between, rows_among};
+ghost use Rattle.rc_tables.specs.calls.Rebuilt.{NoRowIsEmpty, open_range, changes_among, ended, pieces_between, rows_among};
 ghost use Rattle.rc_mutation.specs.Fragments.{rows_and_changes};
 
 use rc_cell::Tomb;
@@ -62,7 +62,7 @@ fn rows_of(alloc: Global, frags: &[Frag]) -> Result<Option<Rows>, AllocError>
 // Joins the fragment's row to the rows, if it is one; false where nothing was written of it.
 fn take_row(alloc: Global, frag: &Frag, rows: &mut Rows) -> Result<bool, AllocError>
     ensures taken { IfOk result (λ ok. IsTrue ok → joined_rows rows.new ≡ joined_rows (rows.old ++ rows_among (frag.now ∷ []))) }
-    ensures written { AllWritten (rows_among (frag.now ∷ [])) → IfOk result IsTrue }
+    ensures written { NoRowIsEmpty (rows_among (frag.now ∷ [])) → IfOk result IsTrue }
 {
     match frag {
         Frag::Row(key, row) => {

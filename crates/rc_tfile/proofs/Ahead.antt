@@ -13,7 +13,7 @@ use Rattle.rc_schema.specs.SchemaText.{schema_text}
 use Rattle.rc_tfile.specs.Items.{HeadItem, item_code, IsItem}
 use Rattle.rc_tfile.specs.Reading.{Starts}
 use Rattle.rc_tfile.proofs.Heads.{length_of_length}
-use Rattle.rc_tfile.specs.calls.Windows.{ReadAhead, IsAhead, IsFull, IsOpen, reads_left}
+use Rattle.rc_tfile.specs.calls.Windows.{ReadAhead, IsAhead, IsItemAhead, IsOpen, reads_left}
 
 pub lies_ahead : (files : Option Files) (w : ReadAhead) (count : ℕ) → IsOpen files w → w.read + count ≤ w.size → LiesInFile files w.number w.read count
 lies_ahead None w count is h = tt
@@ -49,7 +49,7 @@ starts_within code more ahead unread e h =
     sym (take-append-drop (length code) ahead) ∙ ap (λ t. t ++ drop (length code) ahead) front
 
 -- what the file goes on with is ahead, if it is no longer than an item
-pub ahead_decides : (content front : List ℕ) (w : ReadAhead) → IsAhead content front w → IsFull w → (code more : List ℕ) → length code ≤ 65541 → content ≡ front ++ (code ++ more) → (rest : List ℕ) × (w.ahead ≡ code ++ rest)
+pub ahead_decides : (content front : List ℕ) (w : ReadAhead) → IsAhead content front w → IsItemAhead w → (code more : List ℕ) → length code ≤ 65541 → content ≡ front ++ (code ++ more) → (rest : List ℕ) × (w.ahead ≡ code ++ rest)
 ahead_decides content front w is full code more few e =
     let same : w.ahead ++ is.unread ≡ code ++ more = sym (drop_at front (w.ahead ++ is.unread) (length front) refl) ∙ ap (drop (length front)) (sym is.whole ∙ e) ∙ drop_at front (code ++ more) (length front) refl in
     let lengths : length content ≡ length front + (length w.ahead + length is.unread) = ap length is.whole ∙ length-append front (w.ahead ++ is.unread) ∙ ap (λ n. length front + n) (length-append w.ahead is.unread) in
@@ -70,7 +70,7 @@ head_within z is = omega (arith, length-append (length_code (length (schema_text
 pub head_found : (content : List ℕ) (w : ReadAhead) (z : SchemaValue) (size : ℕ) → IsAhead content [] w → Starts (λ y. item_code (HeadItem y)) (λ y. IsItem (HeadItem y)) w.ahead (Some (z, size)) → HasHead content z
 head_found content w z size is found = (drop size w.ahead ++ is.unread, found.0, goes_on content [] w is (item_code (HeadItem z)) (drop size w.ahead) found.1)
 
-pub no_head : (content : List ℕ) (w : ReadAhead) → IsAhead content [] w → IsFull w → Starts (λ y. item_code (HeadItem y)) (λ y. IsItem (HeadItem y)) w.ahead None → (z : SchemaValue) → HasHead content z → ⊥
+pub no_head : (content : List ℕ) (w : ReadAhead) → IsAhead content [] w → IsItemAhead w → Starts (λ y. item_code (HeadItem y)) (λ y. IsItem (HeadItem y)) w.ahead None → (z : SchemaValue) → HasHead content z → ⊥
 no_head content w is full none z head =
     let there = ahead_decides content [] w is full (item_code (HeadItem z)) head.0 (head_within z head.1) head.2 in
     none z there.0 head.1 there.1

@@ -14,9 +14,9 @@ use Rattle.rc_tfile.specs.Blocks.{DirectoryEntry, entries, entry_items, ending, 
 use Rattle.rc_tfile.specs.TableText.{ItemFits, AllFit, MayStand}
 use Rattle.rc_tfile.specs.calls.Outlined.{IsListed}
 use Rattle.rc_tfile.specs.Checking.{IsContent, IsHostError}
-use Rattle.rc_tfile.specs.calls.Windows.{ReadAhead, IsFull, IsAheadIn}
+use Rattle.rc_tfile.specs.calls.Windows.{ReadAhead, IsItemAhead, IsAheadIn}
 use Rattle.rc_tfile.specs.Walking.{IsRefusalOf}
-use Rattle.rc_tfile.specs.calls.Walking.{EndsWithTail, IsCheckRefused, Awaits, Expects, Meets, Misses, EndsFront, Overruns, IsWhole}
+use Rattle.rc_tfile.specs.calls.Walking.{EndsWithTail, IsCheckRefused, Awaits, Expects, Meets, Misses, EndsFront, Overruns, IsWholeTable}
 use Rattle.std.proofs.lemmas.List.{length-append}
 use Rattle.rc_tfile.specs.laws.Follows.{followed_by-append, all_append}
 use Rattle.rc_tfile.proofs.Ahead.{ahead_decides, no_more}
@@ -24,7 +24,7 @@ use Rattle.rc_tfile.proofs.Turns.{offset_is, first_damage}
 
 -- ---- bytes that must come next
 
-pub miss : (files : Option Files) (front code : List ℕ) (w : ReadAhead) (off : ℕ) → length code ≤ 65541 → IsAheadIn files front w → IsFull w → off + length w.ahead ≡ w.read → ((rest : List ℕ) → w.ahead ≡ code ++ rest → ⊥)
+pub miss : (files : Option Files) (front code : List ℕ) (w : ReadAhead) (off : ℕ) → length code ≤ 65541 → IsAheadIn files front w → IsItemAhead w → off + length w.ahead ≡ w.read → ((rest : List ℕ) → w.ahead ≡ code ++ rest → ⊥)
     → (content : List ℕ) → IsContent files w.number content → Misses content front code (Damaged off)
 miss files front code w off few told full h none content is =
     let at = told content is in
@@ -53,7 +53,7 @@ outside_overrun bytes front (Damaged off) h = absurd h
 outside_overrun bytes front OtherSchema h = absurd h
 outside_overrun bytes front NoMemory h = tt
 
-pub all_read : (files : Option Files) (front : List ℕ) (w : ReadAhead) → IsAheadIn files front w → IsFull w → w.ahead ≡ [] → (content : List ℕ) → IsContent files w.number content → content ≡ front
+pub all_read : (files : Option Files) (front : List ℕ) (w : ReadAhead) → IsAheadIn files front w → IsItemAhead w → w.ahead ≡ [] → (content : List ℕ) → IsContent files w.number content → content ≡ front
 all_read files front w told full empty content is =
     let at = told content is in
     let none : length w.ahead ≡ 0 = ap length empty in
@@ -232,7 +232,7 @@ overran f schema start w OtherSchema bytes a m = absurd m
 overran f schema start w NoMemory bytes a m = tt
 
 -- nothing is to come, and nothing came
-pub ended_there : (f g : Option Files) (schema : SchemaValue) (start : ItemsBefore) (r : Result (Unit {0}) CheckErr) (w v : ReadAhead) → Awaits f schema start [] w → EndsFront f g r w v → MatchResult r (λ _. IsWhole g v.number schema start) (IsCheckRefused g v.number schema)
+pub ended_there : (f g : Option Files) (schema : SchemaValue) (start : ItemsBefore) (r : Result (Unit {0}) CheckErr) (w v : ReadAhead) → Awaits f schema start [] w → EndsFront f g r w v → MatchResult r (λ _. IsWholeTable g v.number schema start) (IsCheckRefused g v.number schema)
 ended_there f g schema start (Ok u) w v a e =
     let done : a.done ≡ ending start = sym (a.whole ∙ append-nil a.done) in
     (subst (λ d. AllFit schema (followed_by start d)) done a.fit, λ bytes is. e (text (followed_by start a.done)) a.told bytes is ∙ ap (λ d. text (followed_by start d)) done)

@@ -28,7 +28,7 @@ use Rattle.rc_tfile.specs.Info.{info_of, refs_from}
 use Rattle.rc_tfile.specs.calls.Outlined.{IsListed}
 use Rattle.rc_tfile.specs.Checking.{IsContent}
 use Rattle.rc_tfile.specs.Walking.{ChecksTable}
-use Rattle.rc_tfile.specs.calls.Walking.{IsWhole}
+use Rattle.rc_tfile.specs.calls.Walking.{IsWholeTable}
 use Rattle.rc_tfile.specs.laws.Follows.{followed_by-append, all_append, all_of}
 use Rattle.rc_tfile.specs.laws.Drafts.{parts_of, body_is}
 
@@ -144,7 +144,7 @@ parts_found schema before fit =
     (w.parts, ap (λ b. StopItem ∷ b) w.whole ∙ sym (body_is schema w.parts), all_of HoldsTogether w.parts w.hold)
 
 -- so a file that ends with what must come behind them is their table
-pub table_found : (files : Option Files) (k n : ℕ) (schema : SchemaValue) (before : ItemsBefore) (o : Outline) (parts : List PartRef) (bytes : List ℕ) → AllFit schema (StopItem ∷ before) → IsListed (StopItem ∷ before) o → IsWhole files k schema (StopItem ∷ before)
+pub table_found : (files : Option Files) (k n : ℕ) (schema : SchemaValue) (before : ItemsBefore) (o : Outline) (parts : List PartRef) (bytes : List ℕ) → AllFit schema (StopItem ∷ before) → IsListed (StopItem ∷ before) o → IsWholeTable files k schema (StopItem ∷ before)
     → parts ≡ refs_from o.off o.listed.items → IsContent files k bytes → ChecksTable bytes n schema (Ok (record { number = n; parts = parts }))
 table_found files k n schema before o parts bytes fit is whole same content =
     let found = parts_found schema before fit in

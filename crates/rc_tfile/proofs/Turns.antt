@@ -14,7 +14,7 @@ use Rattle.rc_tfile.specs.calls.Outlined.{IsOutline, outline_place}
 use Rattle.rc_tfile.specs.Checking.{ChecksHead, AsksFew}
 use Rattle.rc_tfile.specs.calls.Checking.{IsNextItem}
 use Rattle.rc_tfile.specs.Reading.{Starts}
-use Rattle.rc_tfile.specs.calls.Windows.{ReadAhead, IsAhead, IsFull, IsAheadIn, past, reads_left}
+use Rattle.rc_tfile.specs.calls.Windows.{ReadAhead, IsAhead, IsItemAhead, IsAheadIn, looked_past, reads_left}
 use Rattle.rc_tfile.specs.Walking.{IsRefusalOf}
 use Rattle.rc_tfile.specs.calls.Walking.{EndsWithTail, IsCheckRefused, StandsAhead, Stopped}
 use Rattle.rc_tfile.proofs.Ahead.{ahead_decides}
@@ -24,7 +24,7 @@ use Rattle.rc_tfile.proofs.Lengths.{fits_within, some_bytes}
 
 -- ---- bytes that were looked at
 
-past_is : (content front code more : List ℕ) (w : ReadAhead) → IsAhead content front w → w.ahead ≡ code ++ more → IsAhead content (front ++ code) (past (length code) w)
+past_is : (content front code more : List ℕ) (w : ReadAhead) → IsAhead content front w → w.ahead ≡ code ++ more → IsAhead content (front ++ code) (looked_past (length code) w)
 past_is content front code more w is e =
     let left : drop (length code) w.ahead ≡ more = ap (drop (length code)) e ∙ drop_at code more (length code) refl in record {
       unread = is.unread;
@@ -33,9 +33,9 @@ past_is content front code more w is e =
       read = omega (arith, is.read, ap length e, length-append code more, length-append front code, ap length left);
     }
 
-pub told_past : (files : Option Files) (front code more : List ℕ) (w v : ReadAhead) (n : ℕ) → IsAheadIn files front w → w.ahead ≡ code ++ more → n ≡ length code → v ≡ past n w → IsAheadIn files (front ++ code) v
+pub told_past : (files : Option Files) (front code more : List ℕ) (w v : ReadAhead) (n : ℕ) → IsAheadIn files front w → w.ahead ≡ code ++ more → n ≡ length code → v ≡ looked_past n w → IsAheadIn files (front ++ code) v
 told_past files front code more w v n told e s p =
-    let there : IsAheadIn files (front ++ code) (past n w) = λ content is. subst (λ k. IsAhead content (front ++ code) (past k w)) (sym s) (past_is content front code more w (told content is) e) in
+    let there : IsAheadIn files (front ++ code) (looked_past n w) = λ content is. subst (λ k. IsAhead content (front ++ code) (looked_past k w)) (sym s) (past_is content front code more w (told content is) e) in
     subst (λ u. IsAheadIn files (front ++ code) u) (sym p) there
 
 -- the reads of a whole file
@@ -81,7 +81,7 @@ head_refused bytes schema OtherSchema h = absurd h
 head_refused bytes schema NoMemory h = tt
 
 -- behind the head
-pub head_stands : (files : Option Files) (schema found : SchemaValue) (o : Outline) (w v : ReadAhead) (size : ℕ) → IsAheadIn files [] w → Starts (λ z. item_code (HeadItem z)) (λ z. IsItem (HeadItem z)) w.ahead (Some (found, size)) → found ≡ schema → v ≡ past size w
+pub head_stands : (files : Option Files) (schema found : SchemaValue) (o : Outline) (w v : ReadAhead) (size : ℕ) → IsAheadIn files [] w → Starts (λ z. item_code (HeadItem z)) (λ z. IsItem (HeadItem z)) w.ahead (Some (found, size)) → found ≡ schema → v ≡ looked_past size w
     → ((z : SchemaValue) → size ≡ length (item_code (HeadItem z)) → IsOutline (HeadItem z ∷ []) o) → StandsAhead files schema o v
 head_stands files schema found o w v size told starts same p outline =
     let is : Starts (λ z. item_code (HeadItem z)) (λ z. IsItem (HeadItem z)) w.ahead (Some (schema, size)) = subst (λ z. Starts (λ y. item_code (HeadItem y)) (λ y. IsItem (HeadItem y)) w.ahead (Some (z, size))) same starts in record {
@@ -134,7 +134,7 @@ pub offset_is : (content front : List ℕ) (w : ReadAhead) (off : ℕ) → IsAhe
 offset_is content front w off is h = omega (arith, is.read, h)
 
 module _ (files : Option Files) (schema : SchemaValue) (before : ItemsBefore) (fit : AllFit schema before) where
-  pub item_damage : (o : Outline) (w : ReadAhead) (off : ℕ) → IsOutline before o → IsAheadIn files (text before) w → IsFull w → off + length w.ahead ≡ w.read → Nothing schema before w.ahead → IsCheckRefused files w.number schema (Damaged off)
+  pub item_damage : (o : Outline) (w : ReadAhead) (off : ℕ) → IsOutline before o → IsAheadIn files (text before) w → IsItemAhead w → off + length w.ahead ≡ w.read → Nothing schema before w.ahead → IsCheckRefused files w.number schema (Damaged off)
   item_damage o w off outline told full h none = λ content is.
       let at = told content is in
       let known = place_known o.inside in
@@ -142,7 +142,7 @@ module _ (files : Option Files) (schema : SchemaValue) (before : ItemsBefore) (f
       first_damage content (w.ahead ++ at.unread) schema before off fit (λ e. known.1 (sym (ap item_place e) ∙ outline.inside)) at.whole (offset_is content (text before) w off at h) (λ t. absurd (not_behind (tail_behind before t)))
       (λ x more f e. (let there = ahead_decides content (text before) w at full (item_code x) more (fits_within schema before x not_behind f) (at.whole ∙ ap (λ t. text before ++ t) e) in none x there.0 f there.1))
 
-  pub item_more : (bytes : List ℕ) (o : Outline) (w v : ReadAhead) (size : ℕ) → IsAheadIn files (text before) w → bytes ≡ w.ahead → IsNextItem schema before bytes o (next.Fits size) → v ≡ past size w → StandsAhead files schema o v
+  pub item_more : (bytes : List ℕ) (o : Outline) (w v : ReadAhead) (size : ℕ) → IsAheadIn files (text before) w → bytes ≡ w.ahead → IsNextItem schema before bytes o (next.Fits size) → v ≡ looked_past size w → StandsAhead files schema o v
   item_more bytes o w v size told b step p = record {
     before = step.0 ∷ before;
     fit = (fit, step.2);
@@ -150,7 +150,7 @@ module _ (files : Option Files) (schema : SchemaValue) (before : ItemsBefore) (f
     told = told_past files (text before) (item_code step.0) step.1 w v size told (sym b ∙ step.3) step.4 p;
   }
 
-  pub stop_next : (bytes : List ℕ) (o : Outline) (w v : ReadAhead) → IsAheadIn files (text before) w → bytes ≡ w.ahead → IsNextItem schema before bytes o next.Stops → v ≡ past 1 w → Stopped files schema o v
+  pub stop_next : (bytes : List ℕ) (o : Outline) (w v : ReadAhead) → IsAheadIn files (text before) w → bytes ≡ w.ahead → IsNextItem schema before bytes o next.Stops → v ≡ looked_past 1 w → Stopped files schema o v
   stop_next bytes o w v told b step p = record {
     before = before;
     fit = (fit, step.1);

@@ -40,11 +40,11 @@ item_place (ChangeItem x tomb ∷ before) = Inside
 item_place (EndItem ∷ before) = Between
 item_place (x ∷ before) = Behind
 
--- the key of the nearest partition
-abbrev pub last_key : ItemsBefore → Option (List ℕ)
-last_key [] = None
-last_key (PartItem key pt statics ∷ before) = Some key
-last_key (x ∷ before) = last_key before
+-- the nearest partition: its key, and where its part begins
+abbrev pub last_part : ItemsBefore → Option (List ℕ × ℕ)
+last_part [] = None
+last_part (PartItem key pt statics ∷ before) = Some (key, offset before)
+last_part (x ∷ before) = last_part before
 
 -- where the nearest fragment of the same partition stands
 abbrev pub last_pos : ItemsBefore → Option Pos

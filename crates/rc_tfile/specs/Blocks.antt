@@ -6,7 +6,7 @@ use Rattle.rc_position.specs.declared.positions.Pos.{Pos}
 use Rattle.rc_position.specs.Position.{row_pos}
 use Rattle.rc_tfile.specs.declared.blocks.Block.{Block}
 use Rattle.rc_tfile.specs.Items.{Item, PartItem, RowItem, ChangeItem, EndItem, StopItem, EntryItem, BlockItem, TailItem, item_code}
-use Rattle.rc_tfile.specs.Before.{ItemsBefore, offset, last_key, tomb_in_force}
+use Rattle.rc_tfile.specs.Before.{ItemsBefore, offset, last_part, tomb_in_force}
 
 -- the longest block of more than one fragment, in bytes
 abbrev pub block_limit : ℕ
@@ -28,12 +28,6 @@ blocks (RowItem key row ∷ before) = with_fragment (blocks before) (new_block b
 blocks (ChangeItem x tomb ∷ before) = with_fragment (blocks before) (new_block before (ChangeItem x tomb) x)
 blocks before = []
 
--- where the nearest part begins
-abbrev pub part_offset : ItemsBefore → ℕ
-part_offset [] = 0
-part_offset (PartItem key pt statics ∷ before) = offset before
-part_offset (x ∷ before) = part_offset before
-
 -- what the directory lists of a partition: its key, the offset of its part, and its blocks
 pub record DirectoryEntry : Type 0 where
   pub key : List ℕ
@@ -43,7 +37,7 @@ pub record DirectoryEntry : Type 0 where
 -- the entries of the partitions that have ended, in the order of the file
 abbrev pub entries : ItemsBefore → List DirectoryEntry
 entries [] = []
-entries (EndItem ∷ before) = entries before ++ record { key = unwrap_or (last_key before) []; off = part_offset before; blocks = blocks before } ∷ []
+entries (EndItem ∷ before) = let part = unwrap_or (last_part before) ([], 0) in entries before ++ record { key = part.0; off = part.1; blocks = blocks before } ∷ []
 entries (x ∷ before) = entries before
 
 -- a partition in the directory, followed by its blocks

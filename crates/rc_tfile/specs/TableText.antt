@@ -18,13 +18,13 @@ use Rattle.rc_mutation.specs.Canonical.{ComesNext}
 use Rattle.rc_mutation.specs.Fragments.{fragments}
 use Rattle.rc_writes.specs.Allowed.{IsStaticOf, IsRowOf, IsRangeBound, ChangeFits}
 use Rattle.rc_tfile.specs.Items.{Item, HeadItem, PartItem, RowItem, ChangeItem, EndItem, StopItem, TailItem, item_code, IsItem}
-use Rattle.rc_tfile.specs.Before.{ItemsBefore, text, offset, followed_by, Between, Inside, item_place, last_key, last_pos, tomb_in_force}
+use Rattle.rc_tfile.specs.Before.{ItemsBefore, text, offset, followed_by, Between, Inside, item_place, last_part, last_pos, tomb_in_force}
 use Rattle.rc_tfile.specs.Blocks.{ending, due}
 
 -- an item may stand behind others: keys and positions strictly ascend, and behind the stop it is the next of those that must come
 abbrev pub MayStand : SchemaValue → ItemsBefore → Item → Type 0
 MayStand schema before (HeadItem other) = (before ≡ []) × (other ≡ schema)
-MayStand schema before (PartItem key pt statics) = (item_place before ≡ Between) × IfSome (last_key before) (λ last. bytes_cmp last key ≡ Less) × IsStaticOf schema statics
+MayStand schema before (PartItem key pt statics) = (item_place before ≡ Between) × IfSome (last_part before) (λ last. bytes_cmp last.0 key ≡ Less) × IsStaticOf schema statics
 MayStand schema before (RowItem key row) = (item_place before ≡ Inside) × ComesNext (last_pos before) (row_pos key) × IsRowOf schema key row × (row ≢ empty_row)
 MayStand schema before (ChangeItem x tomb) = (item_place before ≡ Inside) × ComesNext (last_pos before) x × IsRangeBound schema x × (tomb ≢ tomb_in_force before)
 MayStand schema before EndItem = (item_place before ≡ Inside) × (tomb_in_force before ≡ None)

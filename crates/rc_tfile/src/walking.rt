@@ -13,7 +13,7 @@ ghost use Rattle.rc_outside.specs.Faults.{RisesIfFault};
 ghost use Rattle.rc_tfile.specs.Checking.{IsContent, AsksFew, OnCheckFault};
 ghost use Rattle.rc_tfile.specs.calls.Windows.{IsOpen, IsAheadIn, bytes_left, reads_left, largest};
 ghost use Rattle.rc_tfile.specs.Walking.{ChecksTable};
-ghost use Rattle.rc_tfile.specs.calls.Walking.{IsCheckRefused, StandsAhead, Stopped, Walks, Awaits, Expects, Meets, EndsFront, IsWhole, IsWalked};
+ghost use Rattle.rc_tfile.specs.calls.Walking.{IsCheckRefused, StandsAhead, Stopped, Walks, Awaits, Expects, Meets, EndsFront, IsWholeTable, IsWalked};
 
 use crate::blocks::{Block, Listed};
 use crate::checking::{CheckErr, head_of};
@@ -319,7 +319,7 @@ fn check_ending<W: Store>(
     ensures number { file.new.number ≡ file.old.number }
     ensures asks { W.asks store.new ≤ W.asks store.old + reads_left file.old }
     ensures whole { (schema : SchemaValue) (start : ItemsBefore) → IsListed start outline.now → Awaits (W.files store.old) schema start (ending start) file.old →
-        MatchResult result (λ _. IsWhole (W.files store.new) file.new.number schema start) (IsCheckRefused (W.files store.new) file.new.number schema) }
+        MatchResult result (λ _. IsWholeTable (W.files store.new) file.new.number schema start) (IsCheckRefused (W.files store.new) file.new.number schema) }
 {
     check_directory(alloc, store, file, outline.listed.as_slice())?;
     check_tail(alloc, store, file, outline.off, outline.listed.len())?;

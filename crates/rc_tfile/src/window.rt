@@ -4,7 +4,7 @@ ghost use Rattle.std.specs.Prelude.{◌≡◌, ℕ, ◌+◌, ◌≤◌, [], List
 ghost use Rattle.rc_outside.specs.Files.{HoldsSameFiles, Files, IsFile, LiesInFile};
 ghost use Rattle.rc_outside.specs.Faults.{RisesIfFault};
 ghost use Rattle.rc_tfile.specs.Checking.{IsHostError, OnCheckFault};
-ghost use Rattle.rc_tfile.specs.calls.Windows.{ReadAhead, IsFull, IsOpen, IsAheadIn, past, bytes_left, reads_left};
+ghost use Rattle.rc_tfile.specs.calls.Windows.{ReadAhead, IsItemAhead, IsOpen, IsAheadIn, looked_past, bytes_left, reads_left};
 
 use crate::checking::CheckErr;
 use rc_outside::Store;
@@ -85,7 +85,7 @@ impl Window {
     /// Goes past so many bytes, which were looked at.
     pub(crate) fn advance(&mut self, count: usize)
         requires { count ≤ length self.old.ahead }
-        ensures value { self.new ≡ past count self.old }
+        ensures value { self.new ≡ looked_past count self.old }
         ensures left { bytes_left self.new + count ≡ bytes_left self.old }
         ensures reads { reads_left self.new ≡ reads_left self.old }
         ensures open { (files : Option Files) → IsOpen files self.old → IsOpen files self.new }
@@ -99,7 +99,7 @@ impl Window {
         ensures store { HoldsSameFiles W.files W.building store.old store.new }
         ensures faults { RisesIfFault OnCheckFault result (W.faults store.old) (W.faults store.new) }
         ensures open { OnOk result (IsOpen (W.files store.new) self.new) }
-        ensures full { OnOk result (IsFull self.new) }
+        ensures full { OnOk result (IsItemAhead self.new) }
         ensures told { (front : List ℕ) → IsAheadIn (W.files store.old) front self.old → OnOk result (IsAheadIn (W.files store.new) front self.new) }
         ensures number { self.new.number ≡ self.old.number }
         ensures cause { IfErr result IsHostError }

@@ -18,7 +18,7 @@ use Rattle.rc_machine.specs.State.{Reader, State, numbers}
 use Rattle.rc_machine.specs.Standing.{IsOver}
 use Rattle.rc_machine.specs.Steps.{next_number, sealing, with_table, without_sealed}
 use Rattle.rc_machine.specs.laws.Folder.{is_no_file}
-use Rattle.rc_folder.specs.Tabled.{Tabled, IsAdded, IsNextNumber}
+use Rattle.rc_folder.specs.Tabled.{Tabled, IsTableAdded, IsNextNumber}
 use Rattle.rc_folder.specs.laws.Ahead.{numbers_known, tables_more, listed_more}
 
 -- ---- the next number
@@ -60,7 +60,7 @@ over_sealed told schema infos m over =
 -- ---- one more table
 
 -- the sealed writes stand in a table of the next number
-pub over_added : (told told' : Option Files) (f f' : Tabled) (n : ℕ) (m : State) (parts : List Partition) → IsOver told f.schema f.infos m → IsNextNumber f.infos (Some n) → IsAdded told f n parts told' f' → All (λ p. IsMutation p.change) parts
+pub over_added : (told told' : Option Files) (f f' : Tabled) (n : ℕ) (m : State) (parts : List Partition) → IsOver told f.schema f.infos m → IsNextNumber f.infos (Some n) → IsTableAdded told f n parts told' f' → All (λ p. IsMutation p.change) parts
     → IsOver told' f'.schema f'.infos (with_table m parts)
 over_added told told' f f' n m parts over is added whole =
     let new : State = with_table m parts in

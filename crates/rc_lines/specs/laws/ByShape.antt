@@ -24,7 +24,7 @@ use Rattle.rc_lines.specs.declared.shapes.Shape.{Shape}
 use Rattle.rc_lines.specs.declared.shapes.Shape.TheVariants.{Plain, Open, Written}
 use Rattle.rc_lines.specs.Forms.{forms}
 use Rattle.rc_lines.specs.Grammar.{longest_line, is_comment, schema_said, parse}
-use Rattle.rc_lines.specs.UnderSchema.{need, put_parts, slice_of, columns_of, is_partition_key, row_written, statics_written, range_written, partition_written, slice_opened}
+use Rattle.rc_lines.specs.UnderSchema.{need, put_parts, slice_of, columns_of, is_partition_key, row_written, statics_written, range_written, partition_written, on_slice}
 use Rattle.rc_lines.specs.calls.ByShape.{shape_meaning, line_meaning, parse_by_shape}
 use Rattle.rc_lines.specs.calls.ShapeMeaning.{key_under, are_columns, are_short, have_short_values, is_short_slice, cell_named, columns_from, by_column, slice_under, rows_said, refusal_of, unless, meaning}
 use Rattle.rc_lines.specs.calls.Shapes.{shape_of}
@@ -112,12 +112,12 @@ slice_cases key make None = refl
 slice_cases key make (Some slice) = within_unless (is_partition_key key && is_short_slice slice) (make slice)
 
 range_means : (schema : SchemaValue) (key : List ℕ) (from to : Bound) (tomb : Tomb) → range_written key (limit from) (limit to) tomb schema ≡ meaning schema (Written key (OfRange from to tomb))
-unfolding range_written slice_of slice_under meaning refusal_of
+unfolding range_written on_slice slice_of slice_under meaning refusal_of
 range_means schema key from to tomb =
     slice_cases key (λ slice. put_parts key None empty_row [] (record { from = slice.from; to = slice.to; tomb = tomb } ∷ [])) (slice_under from to schema.ck)
 
-open_means : (schema : SchemaValue) (id : ℕ) (key : List ℕ) (from to : Bound) → slice_opened id key (limit from) (limit to) schema ≡ meaning schema (Open id key from to)
-unfolding slice_opened slice_of slice_under meaning refusal_of
+open_means : (schema : SchemaValue) (id : ℕ) (key : List ℕ) (from to : Bound) → on_slice key (limit from) (limit to) (OpenRead id key) schema ≡ meaning schema (Open id key from to)
+unfolding on_slice slice_of slice_under meaning refusal_of
 open_means schema id key from to = slice_cases key (λ slice. OpenRead id key slice) (slice_under from to schema.ck)
 
 and_true : (b : Bool) → b ≡ b && true

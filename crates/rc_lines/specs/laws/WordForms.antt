@@ -14,7 +14,7 @@ use Rattle.rc_spelling.specs.Numbers.{count_of}
 use Rattle.rc_spelling.specs.Words.{is_word, each_of}
 use Rattle.rc_spelling.specs.Spelling.{bytes_spelled}
 use Rattle.rc_lines.specs.declared.commands.Command.{Command}
-use Rattle.rc_lines.specs.declared.commands.Command.TheVariants.{Read, Close, FlushBegin, FlushStep, Evict, Compact, Clean}
+use Rattle.rc_lines.specs.declared.commands.Command.TheVariants.{OpenRead, Read, Close, FlushBegin, FlushStep, Evict, Compact, Clean}
 use Rattle.rc_lines.specs.declared.shapes.Bound.{Bound}
 use Rattle.rc_lines.specs.declared.shapes.Change.{Change}
 use Rattle.rc_lines.specs.declared.shapes.Change.TheVariants.{OfRow, OfStatic, OfRange, OfPartition}
@@ -24,7 +24,7 @@ use Rattle.rc_lines.specs.declared.shapes.Stamp.{Stamp}
 use Rattle.rc_lines.specs.declared.shapes.Stamp.TheVariants.{Alive, Gone}
 use Rattle.rc_lines.specs.Forms.{Form, columns_to_end, forms}
 use Rattle.rc_lines.specs.Parts.{without_front, without_back, stamp_of, time_of, key_of, pieces_of, named, cell_set, cell_unset, limit_of, from_limit, to_limit}
-use Rattle.rc_lines.specs.UnderSchema.{Saying, row_written, statics_written, range_written, partition_written, slice_opened}
+use Rattle.rc_lines.specs.UnderSchema.{Saying, row_written, statics_written, range_written, partition_written, on_slice}
 use Rattle.rc_lines.specs.calls.ShapeParts.{are_distinct, tomb_of, live_of, split_set, set_of, cell_said, each_cell_of, named_cells, some_cells_of, no_bound, bound_at, marked_bound, from_of, to_of, range_start, range_end}
 use Rattle.rc_lines.specs.calls.Shapes.{row_change, inserted, update_change, removed, deleted, range_deleted, partition_deleted, static_set, static_removed, cell_change_of, deletion_of, change_of, write_of, open_shape, open_of, bare_of, told_of, numbered_of, read_of, step_of, counted_of, plain_of, shape_of}
 
@@ -44,7 +44,7 @@ change_saying key (OfPartition tomb) = partition_written key tomb
 -- what a shape says
 abbrev pub shape_saying : Shape → Saying
 shape_saying (Plain command) = λ schema. Ok command
-shape_saying (Open id key from to) = slice_opened id key (limit from) (limit to)
+shape_saying (Open id key from to) = on_slice key (limit from) (limit to) (OpenRead id key)
 shape_saying (Written key change) = change_saying key change
 
 -- what the first of some forms says that words have
@@ -380,14 +380,14 @@ unstatic_alike (key ∷ stamp ∷ time ∷ names) =
 -- ---- openings
 
 whole_read : (id : Option ℕ) (key : Option (List ℕ)) →
-    option_or (option_and_then (λ n. option_and_then (λ k. Some (slice_opened n k ([], true) ([], true))) key) id) (option_or (option_and_then (λ n. option_and_then (λ k. None) key) id) None)
+    option_or (option_and_then (λ n. option_and_then (λ k. Some (on_slice k ([], true) ([], true) (OpenRead n k))) key) id) (option_or (option_and_then (λ n. option_and_then (λ k. None) key) id) None)
     ≡ option_map shape_saying (option_and_then (λ n. option_and_then (λ k. option_and_then (λ f. option_map (λ t. Open n k f t) (Some no_bound)) (Some no_bound)) key) id)
 whole_read None key = refl
 whole_read (Some n) None = refl
 whole_read (Some n) (Some k) = refl
 
 slice_read : (id : Option ℕ) (key : Option (List ℕ)) (from to : Option Bound) →
-    option_and_then (λ n. option_and_then (λ k. option_and_then (λ f. option_and_then (λ t. Some (slice_opened n k f t)) (option_map limit to)) (option_map limit from)) key) id
+    option_and_then (λ n. option_and_then (λ k. option_and_then (λ f. option_and_then (λ t. Some (on_slice k f t (OpenRead n k))) (option_map limit to)) (option_map limit from)) key) id
     ≡ option_map shape_saying (option_and_then (λ n. option_and_then (λ k. option_and_then (λ f. option_map (λ t. Open n k f t) to) from) key) id)
 slice_read None key from to = refl
 slice_read (Some n) None from to = refl
@@ -414,7 +414,7 @@ open_alike (id ∷ key ∷ from ∷ []) =
     (none_after _ (count_of 4294967295 id) (λ n. none_after _ (key_of key) (λ k. none_after _ (from_limit from) (λ f. refl))))) refl
 open_alike (id ∷ key ∷ from ∷ to ∷ []) =
     (λ i. option_or (none_after (λ n. option_and_then {U = Saying} (λ k. None) (key_of key)) (count_of 4294967295 id) (λ n. none_after (λ k. None) (key_of key) (λ k. refl)) i)
-    (option_or (option_and_then (λ n. option_and_then (λ k. option_and_then (λ f. option_and_then (λ t. Some (slice_opened n k f t)) (to_same to i)) (from_same from i)) (key_of key)) (count_of 4294967295 id)) None))
+    (option_or (option_and_then (λ n. option_and_then (λ k. option_and_then (λ f. option_and_then (λ t. Some (on_slice k f t (OpenRead n k))) (to_same to i)) (from_same from i)) (key_of key)) (count_of 4294967295 id)) None))
     ∙ or_none _ ∙ slice_read (count_of 4294967295 id) (key_of key) (range_start from) (range_end to)
 open_alike (id ∷ key ∷ from ∷ to ∷ more ∷ words) =
     neither _ _ (two_none _ _ (none_after _ (count_of 4294967295 id) (λ n. none_after _ (key_of key) (λ k. refl)))

@@ -17,7 +17,7 @@ use Rattle.rc_lookup.specs.Unstored.{Unstored}
 use Rattle.rc_lookup.specs.Memtables.{HaveWrites}
 use Rattle.rc_lookup.specs.LetGo.{NoCountFell, TakesNoMore}
 use Rattle.rc_lookup.specs.Footprint.{memtable_bytes}
-use Rattle.rc_folder.specs.Tabled.{IsAdded}
+use Rattle.rc_folder.specs.Tabled.{IsTableAdded}
 use Rattle.rc_shard.specs.declared.shard.Shard.{Shard}
 use Rattle.rc_shard.specs.calls.Caching.{Forgets, KeepsCache, LeavesCache}
 
@@ -48,7 +48,7 @@ pub record KeepsWritten (old new : Unstored 131072) : Type 0 where
 pub record IsTableStored (files : Option Files) (k : Shard) (n : ℕ) (files' : Option Files) (k' : Shard) : Type 0 where
   pub parts : List Partition
   pub of_writes : (schema : SchemaValue) (writes later : List Write) → HaveWrites schema k.unstored writes later → IsParts parts writes
-  pub added : IsAdded files k.folder n parts files' k'.folder
+  pub added : IsTableAdded files k.folder n parts files' k'.folder
   pub gone : (schema : SchemaValue) (writes later : List Write) → HaveWrites schema k.unstored writes later → HaveWrites schema k'.unstored [] later
   pub seen : AllStillSee k.unstored.chains k'.unstored.chains
   pub budget : length k'.unstored.chains.region.usages ≡ length k.unstored.chains.region.usages

@@ -4,8 +4,8 @@ use Rattle.std.specs.List.{concat}
 use Rattle.std.specs.Io.KnownBytes.{Appends, Consumes}
 use Rattle.std.specs.declared.alloc.AllocError.{AllocError}
 use Rattle.rc_outside.specs.Faults.{Rose}
-use Rattle.rc_shell.specs.Lines.{IsLine, last_line}
-use Rattle.rc_shell.specs.Run.{Answers, Served, IsWritten, IsEnded, Ran}
+use Rattle.rc_shell.specs.Lines.{IsLine, IsNextLine, last_line}
+use Rattle.rc_shell.specs.Run.{AnswersLines, Served, IsTextWritten, Ran}
 use Rattle.rc_shell.specs.Status.{status_at, status_of}
 use Rattle.rc_shell.specs.declared.status.Status.{Status}
 use Rattle.rc_shell.specs.declared.status.Status.TheVariants as statuses
@@ -69,6 +69,11 @@ module _ {State Seen : Type 0} (Step : State → List ℕ → List ℕ → State
   DueOfLine old line after statuses.StoreFault pieces = (last : List ℕ) × Ends old line statuses.StoreFault last after × (pieces ≡ last ∷ [])
   DueOfLine old line after status pieces = ⊥
 
+  -- behind whole lines that are answered, and before more bytes, a line ends the run: the pieces are the texts and its last line
+  abbrev pub IsEnded : Type 0 → State → List ℕ → Seen → Status → List (List ℕ) → List ℕ → Type 0
+  IsEnded AreLast start bytes after status pieces more = (texts : List (List ℕ)) × (end : State) × (line : List ℕ) × (last : List ℕ) × Served Step start bytes texts more end
+      × IsNextLine AreLast more line × Ends end line status last after × (pieces ≡ texts ++ last ∷ [])
+
   -- What is due for bytes in the middle of the input: the texts for some first lines; or these, and a last line for the next one.
   abbrev pub DueOfBytes : State → List ℕ → Seen → Status → List (List ℕ) → Type 0
   DueOfBytes old bytes after statuses.NoMemory pieces = (more : List ℕ) × (end : State) × Served Step old bytes pieces more end × Leaves end after
@@ -80,7 +85,7 @@ module _ {State Seen : Type 0} (Step : State → List ℕ → List ℕ → State
   abbrev pub ServedLine : State → List ℕ → (State → Type 0) → Seen → Option (List ℕ) → Option (List ℕ) → ℕ → ℕ → Result Unit Stop → Type 0
   ServedLine old line At after before now faults faults' (Ok _) = (text : List ℕ) × (new : State) × Step old line text new × At new × Appends before now text × (faults' ≡ faults)
   ServedLine old line At after before now faults faults' (Err stop) =
-      (text : List ℕ) × IsWritten (DueOfLine old line after) (status_of stop) text × Appends before now text × FaultsAfter stop faults faults'
+      (text : List ℕ) × IsTextWritten (DueOfLine old line after) (status_of stop) text × Appends before now text × FaultsAfter stop faults faults'
 
   -- From old, with the unfinished line `rest`, the bytes gave whole lines; they were answered by `text`; now `left` is unfinished.
   pub record Fed (old : State) (rest bytes text : List ℕ) (new : State) (left : List ℕ) : Type 0 where
@@ -94,7 +99,7 @@ module _ {State Seen : Type 0} (Step : State → List ℕ → List ℕ → State
   Serves old rest bytes At held after before now faults faults' (Ok _) =
       (text : List ℕ) × (left : List ℕ) × (new : State) × Fed old rest bytes text new left × At new × (held ≡ kept left) × Appends before now text × (faults' ≡ faults)
   Serves old rest bytes At held after before now faults faults' (Err stop) =
-      (text : List ℕ) × IsWritten (DueOfBytes old (rest ++ bytes) after) (status_of stop) text × Appends before now text × FaultsAfter stop faults faults'
+      (text : List ℕ) × IsTextWritten (DueOfBytes old (rest ++ bytes) after) (status_of stop) text × Appends before now text × FaultsAfter stop faults faults'
 
   -- A run so far: from the start, so many bytes were taken and each whole line of them is answered; nothing has failed.
   pub record SoFar (start : State) (At : State → Type 0) (held : List ℕ) (count : ℕ) (left left' written written' : Option (List ℕ)) (input input' output output' : ℕ) : Type 0 where
@@ -114,9 +119,9 @@ module _ {State Seen : Type 0} (Step : State → List ℕ → List ℕ → State
   -- What serving the unfinished rest as a last line did.
   abbrev pub ServedLast : State → List ℕ → (State → Type 0) → Seen → Option (List ℕ) → Option (List ℕ) → ℕ → ℕ → Result Unit Stop → Type 0
   ServedLast old rest At after before now faults faults' (Ok _) =
-      (texts : List (List ℕ)) × (new : State) × Answers Step old (last_line rest) texts new × At new × Appends before now (concat texts) × (faults' ≡ faults)
+      (texts : List (List ℕ)) × (new : State) × AnswersLines Step old (last_line rest) texts new × At new × Appends before now (concat texts) × (faults' ≡ faults)
   ServedLast old rest At after before now faults faults' (Err stop) =
-      (rest ≢ []) × (text : List ℕ) × IsWritten (DueOfLine old rest after) (status_of stop) text × Appends before now text × FaultsAfter stop faults faults'
+      (rest ≢ []) × (text : List ℕ) × IsTextWritten (DueOfLine old rest after) (status_of stop) text × Appends before now text × FaultsAfter stop faults faults'
 
   -- What a turn gave: the run goes on, some bytes further, or it ended.
   abbrev pub TurnGave : State → ℕ → (State → Type 0) → List ℕ → ℕ → Option (List ℕ) → Option (List ℕ) → Option (List ℕ) → Option (List ℕ) → Seen → ℕ → ℕ → ℕ → ℕ → Result ℕ Status → Type 0

@@ -1,5 +1,5 @@
 -- Rows and changes that were read, one after another, and what is made of them.
-use Rattle.std.specs.Prelude.{◌≢◌, All, ℕ, List, [], ◌∷◌, ◌++◌, Option, Some, None, if◌then◌else◌, nat_lt, length, take}
+use Rattle.std.specs.Prelude.{◌≡◌, ◌≢◌, All, ℕ, List, [], ◌∷◌, ◌++◌, Option, Some, None, if◌then◌else◌, nat_lt, length, take}
 use Rattle.std.specs.Option.{option_map}
 use Rattle.std.specs.Int.{w64, from_le_bytes}
 use Rattle.rc_cell.specs.declared.rows.Row.{Row}
@@ -7,9 +7,15 @@ use Rattle.rc_cell.specs.declared.writes.Tomb.{Tomb}
 use Rattle.rc_cell.specs.Winner.{empty_row}
 use Rattle.rc_position.specs.declared.comps.Comp.{Comp}
 use Rattle.rc_position.specs.declared.positions.Pos.{Pos}
+use Rattle.rc_position.specs.Position.{row_pos}
 use Rattle.rc_ranges.specs.declared.pieces.Piece.{Piece}
 use Rattle.rc_mutation.specs.declared.fragments.Frag.{Frag}
 use Rattle.rc_mutation.specs.declared.fragments.Frag.TheVariants as frag
+use Rattle.rc_mutation.specs.Canonical.{ComesNext}
+use Rattle.rc_mutation.specs.Fragments.{tomb_after}
+use Rattle.rc_schema.specs.SchemaValue.{SchemaValue}
+use Rattle.rc_stream.specs.Merging.{place_of}
+use Rattle.rc_writes.specs.Allowed.{IsRangeBound, IsRowOf}
 use Rattle.rc_tfile.specs.Items.{RowItem, ChangeItem, item_code, IsItem}
 
 -- the spelling of a row or a change; the other fragments have none of their own
@@ -38,8 +44,8 @@ rows_among (frag.Change x tomb ∷ fs) = rows_among fs
 rows_among (frag.End ∷ fs) = rows_among fs
 
 -- something was written of each row
-abbrev pub AllWritten : List (List Comp × Row) → Type 0
-AllWritten rows = All (λ e. e.1 ≢ empty_row) rows
+abbrev pub NoRowIsEmpty : List (List Comp × Row) → Type 0
+NoRowIsEmpty rows = All (λ e. e.1 ≢ empty_row) rows
 
 -- the changes among fragments
 abbrev pub changes_among : List Frag → List (Pos × Option Tomb)
@@ -69,3 +75,15 @@ pieces_between (c ∷ cs) start = option_map (λ ps. ended start c.0 ++ ps) (pie
 -- a number in eight bytes at the front, if there are as many
 unfoldable pub number_at_front : List ℕ → Option ℕ
 number_at_front bytes = if nat_lt (length bytes) 8 then None else Some (from_le_bytes w64 (take 8 bytes))
+
+-- a row or a change of the schema may stand behind a last position, with a tombstone in force there: it stands behind it; something was
+-- written of a row; a change has another tombstone than the one in force
+abbrev pub MayCome : SchemaValue → Option Tomb → Option Pos → Frag → Type 0
+MayCome schema tomb last (frag.Row key row) = ComesNext last (row_pos key) × (row ≢ empty_row) × IsRowOf schema key row
+MayCome schema tomb last (frag.Change x next) = ComesNext last x × (next ≢ tomb) × IsRangeBound schema x
+MayCome schema tomb last f = ⊥
+
+-- rows and changes of the schema, each of which may stand behind those before it; at the end no tombstone is in force
+abbrev pub AllCome : SchemaValue → Option Tomb → Option Pos → List Frag → Type 0
+AllCome schema tomb last [] = tomb ≡ None
+AllCome schema tomb last (f ∷ fs) = MayCome schema tomb last f × AllCome schema (tomb_after tomb f) (Some (place_of f).0) fs

@@ -17,7 +17,7 @@ use Rattle.rc_mutation.specs.declared.mutations.Mutation.{Mutation}
 use Rattle.rc_mutation.specs.declared.mutations.Partition.{Partition}
 use Rattle.rc_mutation.specs.Fragments.{fragments}
 use Rattle.rc_tfile.specs.Items.{Item, HeadItem, PartItem, RowItem, ChangeItem, EndItem, StopItem}
-use Rattle.rc_tfile.specs.Before.{ItemsBefore, followed_by, last_key}
+use Rattle.rc_tfile.specs.Before.{ItemsBefore, offset, followed_by, last_part}
 use Rattle.rc_tfile.specs.Blocks.{ending}
 use Rattle.rc_tfile.specs.TableText.{AllFit, items_to_stop, whole_table, part_items, frag_items}
 use Rattle.rc_tfile.specs.laws.Follows.{followed_by-append}
@@ -60,21 +60,21 @@ pub front_fits : (schema : SchemaValue) (xs : List Item) (b : ItemsBefore) → A
 front_fits schema [] b h = h
 front_fits schema (x ∷ xs) b h = (front_fits schema xs (x ∷ b) h).0
 
--- fragments have no key
-last_key-frags : (fs : List Frag) (b : ItemsBefore) → last_key (followed_by b (flat_map frag_items fs)) ≡ last_key b
-last_key-frags [] b = refl
-last_key-frags (frag.Start pt ∷ fs) b = last_key-frags fs b
-last_key-frags (frag.Static row ∷ fs) b = last_key-frags fs b
-last_key-frags (frag.Row key row ∷ fs) b = last_key-frags fs (RowItem key row ∷ b)
-last_key-frags (frag.Change x tomb ∷ fs) b = last_key-frags fs (ChangeItem x tomb ∷ b)
-last_key-frags (frag.End ∷ fs) b = last_key-frags fs (EndItem ∷ b)
+-- fragments are no part
+part_behind_frags : (fs : List Frag) (b : ItemsBefore) → last_part (followed_by b (flat_map frag_items fs)) ≡ last_part b
+part_behind_frags [] b = refl
+part_behind_frags (frag.Start pt ∷ fs) b = part_behind_frags fs b
+part_behind_frags (frag.Static row ∷ fs) b = part_behind_frags fs b
+part_behind_frags (frag.Row key row ∷ fs) b = part_behind_frags fs (RowItem key row ∷ b)
+part_behind_frags (frag.Change x tomb ∷ fs) b = part_behind_frags fs (ChangeItem x tomb ∷ b)
+part_behind_frags (frag.End ∷ fs) b = part_behind_frags fs (EndItem ∷ b)
 
--- behind a partition its key is the last
-last_key-part : (p : Partition) (b : ItemsBefore) → last_key (followed_by b (part_items p)) ≡ Some p.key
-last_key-part p b = last_key-frags (fragments p.change) (PartItem p.key p.change.pt p.change.statics ∷ b)
+-- behind a partition its part is the last
+part_behind : (p : Partition) (b : ItemsBefore) → last_part (followed_by b (part_items p)) ≡ Some (p.key, offset b)
+part_behind p b = part_behind_frags (fragments p.change) (PartItem p.key p.change.pt p.change.statics ∷ b)
 
 module _ (schema : SchemaValue) where
-  is_next : (p : Partition) (xs : List Item) (b : ItemsBefore) → AllFit schema (followed_by b (part_items p ++ xs)) → IfSome (last_key b) (λ last. bytes_cmp last p.key ≡ Less)
+  is_next : (p : Partition) (xs : List Item) (b : ItemsBefore) → AllFit schema (followed_by b (part_items p ++ xs)) → IfSome (last_part b) (λ last. bytes_cmp last.0 p.key ≡ Less)
   is_next p xs b h = (front_fits schema (flat_map frag_items (fragments p.change) ++ xs) (PartItem p.key p.change.pt p.change.statics ∷ b) h).1.1.1
 
   abbrev keyed : List Partition → List Keyed
@@ -89,9 +89,9 @@ module _ (schema : SchemaValue) where
       let on : AllFit schema (followed_by behind (flat_map part_items (q ∷ ps) ++ more)) =
       subst (AllFit schema) (ap (followed_by b) items ∙ followed_by-append b (part_items p) (flat_map part_items (q ∷ ps) ++ more)) h in
       let up : T (is_sorted bytes_cmp (keyed (q ∷ ps))) = ascending (q ∷ ps) more behind on in
-      let next : IfSome (last_key behind) (λ last. bytes_cmp last q.key ≡ Less) =
+      let next : IfSome (last_part behind) (λ last. bytes_cmp last.0 q.key ≡ Less) =
       is_next q (flat_map part_items ps ++ more) behind (subst (λ (xs : List Item). AllFit schema (followed_by behind xs)) (append_assoc (part_items q) (flat_map part_items ps) more) on) in
-      let above : bytes_cmp p.key q.key ≡ Less = subst (λ (o : Option (List ℕ)). IfSome o (λ last. bytes_cmp last q.key ≡ Less)) (last_key-part p b) next in
+      let above : bytes_cmp p.key q.key ≡ Less = subst (λ (o : Option (List ℕ × ℕ)). IfSome o (λ last. bytes_cmp last.0 q.key ≡ Less)) (part_behind p b) next in
       both (below_all bytes_cmp p.key (keyed (q ∷ ps))) (is_sorted bytes_cmp (keyed (q ∷ ps))) (below_first p.key (q.key, q.change) (keyed ps) above up) up
 
   -- the keys of a table's partitions strictly ascend

@@ -1,12 +1,13 @@
 -- What an outline keeps of the items so far.
-use Rattle.std.specs.Prelude.{◌≡◌, Bool, true, false, IsSome, Option}
+use Rattle.std.specs.Prelude.{◌≡◌, [], Bool, true, false, IsSome, Option}
+use Rattle.std.specs.Option.{option_map, unwrap_or}
 use Rattle.rc_cell.specs.declared.writes.Tomb.{Tomb}
 use Rattle.rc_position.specs.declared.positions.Pos.{Pos}
 use Rattle.rc_position.specs.Position.{row_pos}
 use Rattle.rc_tfile.specs.declared.outline.Outline.{Outline}
 use Rattle.rc_tfile.specs.Items.{Item, HeadItem, PartItem, RowItem, ChangeItem, EndItem, StopItem, EntryItem, BlockItem, TailItem}
-use Rattle.rc_tfile.specs.Before.{ItemsBefore, ItemPlace, Between, Inside, offset, item_place, last_key, last_pos, tomb_in_force}
-use Rattle.rc_tfile.specs.Blocks.{part_offset, blocks, entries}
+use Rattle.rc_tfile.specs.Before.{ItemsBefore, ItemPlace, Between, Inside, offset, item_place, last_part, last_pos, tomb_in_force}
+use Rattle.rc_tfile.specs.Blocks.{blocks, entries}
 
 -- inside a partition, or between two
 abbrev pub outline_place : Bool → ItemPlace
@@ -16,10 +17,10 @@ outline_place false = Between
 -- the outline's parts are what the items determine
 pub record IsOutline (before : ItemsBefore) (o : Outline) : Type 0 where
   pub off : o.off ≡ offset before
-  pub key : o.key ≡ last_key before
+  pub key : o.key ≡ option_map (λ part. part.0) (last_part before)
   pub «inside» : item_place before ≡ outline_place o.inside
   pub opened : o.inside ≡ true → IsSome o.key
-  pub part : o.part ≡ part_offset before
+  pub part : o.part ≡ (unwrap_or (last_part before) ([], 0)).1
   pub last : o.last ≡ last_pos before
   pub tomb : o.tomb ≡ tomb_in_force before
   pub blocks : o.blocks ≡ blocks before

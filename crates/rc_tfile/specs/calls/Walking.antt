@@ -87,12 +87,12 @@ EndsFront before now (Ok _) old new = (front : List ℕ) → IsAheadIn before fr
 EndsFront before now (Err e) old new = (front : List ℕ) → IsAheadIn before front old → (bytes : List ℕ) → IsContent now new.number bytes → Overruns bytes front e
 
 -- the file has all items that must come behind these, and nothing else
-abbrev pub IsWhole : Option Files → ℕ → SchemaValue → ItemsBefore → Type 0
-IsWhole files n schema start = AllFit schema (followed_by start (ending start)) × ((bytes : List ℕ) → IsContent files n bytes → bytes ≡ text (followed_by start (ending start)))
+abbrev pub IsWholeTable : Option Files → ℕ → SchemaValue → ItemsBefore → Type 0
+IsWholeTable files n schema start = AllFit schema (followed_by start (ending start)) × ((bytes : List ℕ) → IsContent files n bytes → bytes ≡ text (followed_by start (ending start)))
 
 -- items that fit up to the stop and what must come behind them are the whole file, and the outline has what the directory lists
 pub record IsWalked (files : Option Files) (n : ℕ) (schema : SchemaValue) (o : Outline) : Type 0 where
   pub before : ItemsBefore
   pub fit : AllFit schema (StopItem ∷ before)
   pub listed : IsListed (StopItem ∷ before) o
-  pub whole : IsWhole files n schema (StopItem ∷ before)
+  pub whole : IsWholeTable files n schema (StopItem ∷ before)

@@ -15,8 +15,8 @@ abbrev pub largest : ℕ
 largest = 65541
 
 -- an item, or all that is left of the file, is ahead
-abbrev pub IsFull : ReadAhead → Type 0
-IsFull w = (w.read ≡ w.size) ⊎ (largest ≤ length w.ahead)
+abbrev pub IsItemAhead : ReadAhead → Type 0
+IsItemAhead w = (w.read ≡ w.size) ⊎ (largest ≤ length w.ahead)
 
 -- of a file with these bytes the front was looked at, and what is ahead follows it
 pub record IsAhead (content front : List ℕ) (w : ReadAhead) : Type 0 where
@@ -34,8 +34,8 @@ abbrev pub IsOpen : Option Files → ReadAhead → Type 0
 IsOpen files w = IsFile files w.number × IsSizeOf files w.number w.size
 
 -- the same file, of whose bytes ahead so many more were looked at
-abbrev pub past : ℕ → ReadAhead → ReadAhead
-past count w = record { number = w.number; size = w.size; read = w.read; ahead = drop count w.ahead }
+abbrev pub looked_past : ℕ → ReadAhead → ReadAhead
+looked_past count w = record { number = w.number; size = w.size; read = w.read; ahead = drop count w.ahead }
 
 -- how many bytes are not yet looked at
 abbrev pub bytes_left : ReadAhead → ℕ

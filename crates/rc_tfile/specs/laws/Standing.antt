@@ -26,7 +26,7 @@ use Rattle.rc_writes.specs.Allowed.{ChangeFits, IsRangeBound, IsRowOf}
 use Rattle.rc_mutation.specs.Canonical.{IsBounded, IsCanonicalList}
 use Rattle.rc_mutation.specs.laws.CanonicalListed.{listed}
 use Rattle.rc_tfile.specs.Items.{Item, HeadItem, PartItem, RowItem, ChangeItem, EndItem, StopItem, EntryItem, BlockItem, TailItem, IsItem}
-use Rattle.rc_tfile.specs.Before.{ItemsBefore, Between, Inside, text, followed_by, item_place, last_key, last_pos, tomb_in_force}
+use Rattle.rc_tfile.specs.Before.{ItemsBefore, Between, Inside, text, offset, followed_by, item_place, last_part, last_pos, tomb_in_force}
 use Rattle.rc_tfile.specs.Blocks.{DirectoryEntry, entries, entry_items, ending, due}
 use Rattle.rc_tfile.specs.TableText.{MayStand, AllFit, frag_items, part_items, items_to_stop, whole_table, IsTable, PartsFit}
 use Rattle.rc_tfile.specs.laws.Drafts.{parts_of, body_is}
@@ -102,7 +102,7 @@ shown m =
       | false ↦ refl
     ]
 
--- behind the end a part or the stop may come, and the key is the same
+-- behind the end a part or the stop may come, and the last part is the same
 place_ended : (fs : List Frag) (before : ItemsBefore) → item_place (followed_by before (flat_map frag_items (ended fs))) ≡ Between
 place_ended [] before = refl
 place_ended (frag.Start tomb ∷ fs) before = place_ended fs before
@@ -111,13 +111,13 @@ place_ended (frag.Row key row ∷ fs) before = place_ended fs (RowItem key row �
 place_ended (frag.Change x tomb ∷ fs) before = place_ended fs (ChangeItem x tomb ∷ before)
 place_ended (frag.End ∷ fs) before = place_ended fs (EndItem ∷ before)
 
-key_ended : (fs : List Frag) (before : ItemsBefore) → last_key (followed_by before (flat_map frag_items (ended fs))) ≡ last_key before
-key_ended [] before = refl
-key_ended (frag.Start tomb ∷ fs) before = key_ended fs before
-key_ended (frag.Static row ∷ fs) before = key_ended fs before
-key_ended (frag.Row key row ∷ fs) before = key_ended fs (RowItem key row ∷ before)
-key_ended (frag.Change x tomb ∷ fs) before = key_ended fs (ChangeItem x tomb ∷ before)
-key_ended (frag.End ∷ fs) before = key_ended fs (EndItem ∷ before)
+part_ended : (fs : List Frag) (before : ItemsBefore) → last_part (followed_by before (flat_map frag_items (ended fs))) ≡ last_part before
+part_ended [] before = refl
+part_ended (frag.Start tomb ∷ fs) before = part_ended fs before
+part_ended (frag.Static row ∷ fs) before = part_ended fs before
+part_ended (frag.Row key row ∷ fs) before = part_ended fs (RowItem key row ∷ before)
+part_ended (frag.Change x tomb ∷ fs) before = part_ended fs (ChangeItem x tomb ∷ before)
+part_ended (frag.End ∷ fs) before = part_ended fs (EndItem ∷ before)
 
 -- behind the items of a partition
 abbrev behind : ItemsBefore → Partition → ItemsBefore
@@ -128,20 +128,20 @@ place_behind before p =
     let start = PartItem p.key p.change.pt p.change.statics ∷ before in
     ap (λ xs. item_place (followed_by start xs)) (shown p.change) ∙ place_ended (rows_and_changes p.change) start
 
-key_behind : (before : ItemsBefore) (p : Partition) → last_key (behind before p) ≡ Some p.key
-key_behind before p =
+part_behind : (before : ItemsBefore) (p : Partition) → last_part (behind before p) ≡ Some (p.key, offset before)
+part_behind before p =
     let start = PartItem p.key p.change.pt p.change.statics ∷ before in
-    ap (λ xs. last_key (followed_by start xs)) (shown p.change) ∙ key_ended (rows_and_changes p.change) start
+    ap (λ xs. last_part (followed_by start xs)) (shown p.change) ∙ part_ended (rows_and_changes p.change) start
 
 -- the key of the first of some partitions comes next
 abbrev NextKey : ItemsBefore → List Partition → Type 0
 NextKey before [] = ⊤
-NextKey before (p ∷ ps) = IfSome (last_key before) (λ last. bytes_cmp last p.key ≡ Less)
+NextKey before (p ∷ ps) = IfSome (last_part before) (λ last. bytes_cmp last.0 p.key ≡ Less)
 
 next_key : (before : ItemsBefore) (p : Partition) (ps : List Partition) → T (below_all bytes_cmp p.key (list_map (λ (q : Partition). (q.key, q.change)) ps)) → NextKey (behind before p) ps
 next_key before p [] h = tt
 next_key before p (q ∷ ps) h =
-    subst (λ (o : Option (List ℕ)). IfSome o (λ last. bytes_cmp last q.key ≡ Less)) (sym (key_behind before p))
+    subst (λ (o : Option (List ℕ × ℕ)). IfSome o (λ last. bytes_cmp last.0 q.key ≡ Less)) (sym (part_behind before p))
     (less (bytes_cmp p.key q.key) (first (is_lt (bytes_cmp p.key q.key)) (below_all bytes_cmp p.key (list_map (λ (q : Partition). (q.key, q.change)) ps)) h))
 
 -- ---- the directory
@@ -223,7 +223,7 @@ module _ (schema : SchemaValue) where
 
   -- ---- the partitions
 
-  part_stands : (p : Partition) (before : ItemsBefore) → item_place before ≡ Between → IfSome (last_key before) (λ last. bytes_cmp last p.key ≡ Less) → IsMutation p.change → ChangeFits schema p.change → Stand before (part_items p)
+  part_stands : (p : Partition) (before : ItemsBefore) → item_place before ≡ Between → IfSome (last_part before) (λ last. bytes_cmp last.0 p.key ≡ Less) → IsMutation p.change → ChangeFits schema p.change → Stand before (part_items p)
   part_stands p before b k is fits =
       let start = PartItem p.key p.change.pt p.change.statics ∷ before in
       let bounded : IsBounded p.change.ranges = λ j d lt. (let q = fits.ranges j d lt in (q.0.0, q.1.0)) in (

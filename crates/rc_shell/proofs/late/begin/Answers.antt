@@ -1,7 +1,7 @@
 -- A line that means nothing, a refused line, or a schema line.
 use Rattle.std.proofs.Common.{◌∙◌, sym, subst, None, Err}
 use Rattle.rc_lines.specs.Grammar.{parse, ReadsLine}
-use Rattle.rc_shell.specs.Step.{served}
+use Rattle.rc_machine.specs.Built.{served}
 use Rattle.rc_shell.proofs.Staged.{free_closes, none_answered, refused_answered, schema_line}
 use Rattle.rc_shell.proofs.late.begin.Goals as goal
 

@@ -3,7 +3,7 @@ use Rattle.std.proofs.Common.{◌≡◌, ◌++◌, ◌∙◌, ap, sym, subst, So
 use Rattle.rc_lines.specs.laws.FittingCommands.{commands_fit}
 use Rattle.rc_lines.specs.Grammar.{parse, ReadsLine}
 use Rattle.rc_lines.specs.Texts.{reply_text}
-use Rattle.rc_shell.specs.Step.{served}
+use Rattle.rc_machine.specs.Built.{served}
 use Rattle.rc_shell.proofs.Served.{served_ok}
 use Rattle.rc_shell.proofs.Staged.{command_answered, command_unanswered, left_files, refusal_answered, stopped_answered}
 use Rattle.rc_shell.proofs.late.serve.Goals as goal

@@ -9,7 +9,7 @@ use Rattle.rc_mutation.specs.declared.fragments.Frag.{Frag}
 use Rattle.rc_schema.specs.SchemaValue.{SchemaValue}
 use Rattle.rc_stream.specs.Merging.{place_of}
 use Rattle.rc_mutation.specs.Fragments.{tomb_after}
-use Rattle.rc_tables.specs.Rebuilt.{AllCome}
+use Rattle.rc_tables.specs.calls.Rebuilt.{AllCome}
 use Rattle.rc_tables.proofs.Coming.{coming_on, coming_stops}
 use Rattle.rc_tables.proofs.decoding.all_come.Goals as goal
 

@@ -1,7 +1,7 @@
 -- All come exactly where those that are left do.
 use Rattle.std.proofs.Common.{length, None}
 use Rattle.std.specs.Prelude.{◌↔◌}
-use Rattle.rc_tables.specs.Rebuilt.{AllCome}
+use Rattle.rc_tables.specs.calls.Rebuilt.{AllCome}
 use Rattle.rc_tables.proofs.decoding.all_come.Given as goal
 
 abbrev pub invariant-loop-left : goal.invariant-loop-left

@@ -10,10 +10,9 @@ use Rattle.rc_tfile.specs.declared.reading.Part.{Part}
 use Rattle.rc_tfile.specs.Items.{PartItem, item_code}
 use Rattle.rc_tfile.specs.Reading.{Starts}
 use Rattle.rc_writes.specs.Allowed.{IsStaticOf}
-use Rattle.rc_tables.specs.Rebuilt.{AllCome}
-use Rattle.rc_tables.specs.calls.Rebuilt.{IsSpellable, frag_code}
+use Rattle.rc_tables.specs.calls.Rebuilt.{AllCome, IsSpellable, frag_code}
 use Rattle.rc_mutation.specs.Fragments.{rows_and_changes}
-use Rattle.rc_tables.proofs.Coming.{decoded_exactly, none_found}
+use Rattle.rc_tables.proofs.Coming.{comes, decoded_exactly, none_found}
 use Rattle.rc_tables.proofs.Spelled.{IsPartBytes, part_bytes, found_is, part_free, code_of_part, IsPartItem}
 use Rattle.rc_tables.proofs.decoding.decode.Goals as goal
 
@@ -51,18 +50,18 @@ clash e = absurd cc
 
 pub returns-in_default : goal.returns-in_default
 returns-in_default c = none_found c.args.schema.now c.args.key.now c.args.bytes.now
-    (λ m p. absurd (let q = sym c.in_default.is ∙ part_read c.args.bytes.now c.args.key.now m c.in_ok-part.field-0 (part_bytes c.args.bytes.now c.args.key.now m p.mutation p.items p.spelled) c.in_ok-part.ensures.value in cc))
+    (λ m p. absurd (let q = sym c.in_default.is ∙ part_read c.args.bytes.now c.args.key.now m c.in_ok-part.field-0 (part_bytes c.args.bytes.now c.args.key.now m p.says.0 p.items p.spelled) c.in_ok-part.ensures.value in cc))
 
 pub returns-then-not-is_part_of : goal.returns-then-not-is_part_of
 returns-then-not-is_part_of c = none_found c.args.schema.now c.args.key.now c.args.bytes.now (λ m p.
-    let same = part_is c.args.bytes.now c.args.key.now m c.in-Some.part c.in-Some.size c.in_ok-part.field-0 (part_bytes c.args.bytes.now c.args.key.now m p.mutation p.items p.spelled) c.in_ok-part.ensures.value c.in-Some.is in
-    let statics = subst (λ (x : Part). IsStaticOf c.args.schema.now x.head.statics) (sym same) p.statics in
+    let same = part_is c.args.bytes.now c.args.key.now m c.in-Some.part c.in-Some.size c.in_ok-part.field-0 (part_bytes c.args.bytes.now c.args.key.now m p.says.0 p.items p.spelled) c.in_ok-part.ensures.value c.in-Some.is in
+    let statics = subst (λ (x : Part). IsStaticOf c.args.schema.now x.head.statics) (sym same) p.says.1.statics in
     clash (sym (c.is_part_of.ensures.1 (ap (λ (x : Part). x.key) same, statics)) ∙ c.if-not-is_part_of.true))
 
 pub returns-in_default-2 : goal.returns-in_default-2
 returns-in_default-2 c = none_found c.args.schema.now c.args.key.now c.args.bytes.now (λ m p.
-    let b = part_bytes c.args.bytes.now c.args.key.now m p.mutation p.items p.spelled in
-    let read = c.in_ok-frags.ensures.found (rows_and_changes m) b.spelled (rest_read c.args.bytes.now c.args.key.now m c.in-Some.part c.in-Some.size c.in_ok-part.field-0 b c.in_ok-part.ensures.value c.in-Some.is) p.come in
+    let b = part_bytes c.args.bytes.now c.args.key.now m p.says.0 p.items p.spelled in
+    let read = c.in_ok-frags.ensures.found (rows_and_changes m) b.spelled (rest_read c.args.bytes.now c.args.key.now m c.in-Some.part c.in-Some.size c.in_ok-part.field-0 b c.in_ok-part.ensures.value c.in-Some.is) (comes c.args.schema.now m p.says) in
     absurd (let q = sym (ap (option_map (λ v. v.items)) c.in_default-2.is) ∙ read in cc))
 
 pub returns : goal.returns
@@ -77,8 +76,8 @@ returns c =
     decoded_exactly c.args.schema.now c.args.key.now bytes part size fs c.a_canonical_list_is_that_of_a_mutation.ensures.is_of_one here.0 starts.0 starts.1 here.1 (sym (take_rest bytes size) ∙ read.1) read.0 read.2
     c.mutation_of.result (λ m is e h. c.mutation_of.ensures m is (c.as_slice.ensures.value ∙ e) h)
     (λ m p.
-    let b = part_bytes bytes c.args.key.now m p.mutation p.items p.spelled in
-    let found = c.in_ok-frags.ensures.found (rows_and_changes m) b.spelled (rest_read bytes c.args.key.now m part size c.in_ok-part.field-0 b c.in_ok-part.ensures.value c.in-Some.is) p.come in
+    let b = part_bytes bytes c.args.key.now m p.says.0 p.items p.spelled in
+    let found = c.in_ok-frags.ensures.found (rows_and_changes m) b.spelled (rest_read bytes c.args.key.now m part size c.in_ok-part.field-0 b c.in_ok-part.ensures.value c.in-Some.is) (comes c.args.schema.now m p.says) in
     let frags = same_list fs (rows_and_changes m) (sym (ap (option_map (λ v. v.items)) c.in-Some-2.is) ∙ found) in
     let same = part_is bytes c.args.key.now m part size c.in_ok-part.field-0 b c.in_ok-part.ensures.value c.in-Some.is in
-    c.mutation_of.ensures m p.mutation (c.as_slice.ensures.value ∙ frags) (ap (λ (x : Part). x.head) same))
+    c.mutation_of.ensures m p.says.0 (c.as_slice.ensures.value ∙ frags) (ap (λ (x : Part). x.head) same))

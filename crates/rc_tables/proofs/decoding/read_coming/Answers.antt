@@ -4,8 +4,7 @@ use Rattle.std.specs.Prelude.{IfSome}
 use Rattle.std.specs.List.{flat_map, AllByRecursion}
 use Rattle.std.specs.Option.{option_map}
 use Rattle.rc_mutation.specs.declared.fragments.Frag.{Frag}
-use Rattle.rc_tables.specs.Rebuilt.{AllCome}
-use Rattle.rc_tables.specs.calls.Rebuilt.{IsSpellable, frag_code}
+use Rattle.rc_tables.specs.calls.Rebuilt.{AllCome, IsSpellable, frag_code}
 use Rattle.rc_tables.proofs.decoding.read_coming.Goals as goal
 
 same_list : (xs ys : List Frag) → Some xs ≡ Some ys → xs ≡ ys

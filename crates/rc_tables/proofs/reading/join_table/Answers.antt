@@ -87,4 +87,4 @@ returns-in_err-change-clause-damaged g c =
     let rest : behind ≡ drop (at + 1) c.args.info.now.parts = take_rest parts (at + 1) ∙ ap (λ (rs : List PartRef). drop (at + 1) rs) same in
     let there : here ∷ behind ≡ drop at c.args.info.now.parts = (λ j. at_here j ∷ rest j) ∙ sym (drop_more c.args.info.now.parts at here (subst (λ (rs : List PartRef). at < length rs) same c.in-Some.ensures.found.0)) in
     let p = err_from_is_err_and c.from_residual.result c.from_residual.ensures.1 in
-    rw (p.1, p.2) (damage_one c.args.schema.now c.args.key.now c.args.info.now c.in_err-change.field-0.0 ((get_or parts 0 head).dir_off, at, here, behind, sym there, listed, c.in_err-change.ensures.damaged))
+    rw (p.1, p.2) (damage_one c.args.schema.now c.args.key.now c.args.info.now c.in_err-change.field-0.0 (get_or parts 0 head).dir_off at here behind (sym there) listed c.in_err-change.ensures.damaged)

@@ -6,6 +6,8 @@ use Rattle.rc_position.specs.Position.{bytes_cmp}
 use Rattle.rc_tfile.specs.Items.{item_code, PartItem, IsItem}
 use Rattle.rc_tfile.specs.calls.Outlined.{outline_place}
 use Rattle.rc_tfile.specs.Reading.{Starts, part_item}
+use Rattle.rc_tfile.specs.Before.{last_part}
+use Rattle.rc_tfile.proofs.Outlines.{above_key, above_part}
 use Rattle.rc_tfile.proofs.Unfit.{nothing_between, part_unfit, refuted}
 use Rattle.rc_tfile.proofs.stepping.next_part.Goals as goal
 
@@ -19,7 +21,7 @@ returns-then-not-is_next_key c = λ before is ins.
     let found = subst (λ f. Starts (λ p. item_code (part_item p)) (λ p. IsItem (part_item p)) c.args.bytes.now f) c.in-Some.is c.in_ok-part.ensures.value in
     nothing_between c.args.schema.now before c.args.bytes.now (is.inside ∙ ap outline_place ins)
     (part_unfit c.args.schema.now before c.args.bytes.now _ c.in-Some.part.key c.in-Some.part.head.pt c.in-Some.part.head.statics found.0 found.1
-    (λ f. refuted c.is_next_key.result c.if-not-is_next_key.true (c.is_next_key.ensures.1 (subst (λ k. IfSome k (λ x. bytes_cmp x c.in-Some.part.key ≡ Less)) (sym is.key) f.1.1)))) c.requires
+    (λ f. refuted c.is_next_key.result c.if-not-is_next_key.true (c.is_next_key.ensures.1 (subst (λ k. IfSome k (λ x. bytes_cmp x c.in-Some.part.key ≡ Less)) (sym is.key) (above_key c.in-Some.part.key (last_part before) f.1.1))))) c.requires
 
 pub returns-then-not-is_static_of : goal.returns-then-not-is_static_of
 returns-then-not-is_static_of c = λ before is ins.
@@ -31,6 +33,6 @@ returns-then-not-is_static_of c = λ before is ins.
 pub returns : goal.returns
 returns c = λ before is ins.
     let found = subst (λ f. Starts (λ p. item_code (part_item p)) (λ p. IsItem (part_item p)) c.args.bytes.now f) c.in-Some.is c.in_ok-part.ensures.value in
-    let key = subst (λ k. IfSome k (λ x. bytes_cmp x c.in-Some.part.key ≡ Less)) is.key (c.is_next_key.ensures.0 c.if-not-is_next_key.false) in
+    let key = above_part c.in-Some.part.key (last_part before) (subst (λ k. IfSome k (λ x. bytes_cmp x c.in-Some.part.key ≡ Less)) is.key (c.is_next_key.ensures.0 c.if-not-is_next_key.false)) in
     let row = c.is_static_of.ensures.0 c.if-not-is_static_of.false in
     (PartItem c.in-Some.part.key c.in-Some.part.head.pt c.in-Some.part.head.statics, drop c.in-Some.size c.args.bytes.now, (found.0, (is.inside ∙ ap outline_place ins, key, row)), found.1, found.2, c.in_ok-part-2.ensures.outline before c.in-Some.part.head.pt c.in-Some.part.head.statics is found.2)

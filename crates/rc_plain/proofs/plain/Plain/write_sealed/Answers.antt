@@ -5,9 +5,9 @@ use Rattle.rc_mutation.specs.Source.{IsMutation}
 use Rattle.rc_tfile.specs.TableText.{PartsFit}
 use Rattle.rc_lines.specs.declared.commands.Reply.TheVariants as replies
 use Rattle.rc_machine.specs.State.{State}
-use Rattle.rc_folder.specs.Tabled.{IsAdded}
+use Rattle.rc_folder.specs.Tabled.{IsTableAdded}
 use Rattle.rc_plain.specs.Stands.{Keeping, Stands}
-use Rattle.rc_plain.specs.calls.Storing.{tabled, IsTableStored, IsFlushAnswered}
+use Rattle.rc_plain.specs.calls.Storing.{folder_of, IsTableKept, IsFlushKept}
 use Rattle.rc_plain.proofs.Tabled.{no_file, parts_of_sealed}
 use Rattle.rc_plain.proofs.plain.Plain.write_sealed.Goals as goal
 
@@ -27,12 +27,12 @@ returns-in-Ok-clause-written g c =
     let kept : Keeping = record { schema = c.self.inside.folder.schema; infos = c.self.inside.folder.infos; sealed = c.self.inside.sealed; active = c.self.inside.active; readers = c.self.inside.readers.items; segments = c.self.inside.segments; answered = c.self.inside.answered; asked = c.self.inside.asked } in
     let new : Keeping = record { schema = c.add.new.self.schema; infos = c.add.new.self.infos; sealed = c.new.result; active = c.self.inside.active; readers = c.self.inside.readers.items; segments = c.self.inside.segments; answered = c.self.inside.answered; asked = c.self.inside.asked } in
     let parts : List Partition = c.in_ok-parts.parts.items in
-    let added : IsAdded (g.W.Store.files c.args.store.now) (tabled kept) c.args.number parts (g.W.Store.files c.add.new.store) (tabled new) =
-    subst (λ (parts : List Partition). IsAdded (g.W.Store.files c.args.store.now) (tabled kept) c.args.number parts (g.W.Store.files c.add.new.store) (tabled new)) c.as_slice.ensures.value c.in-Ok.ensures.added in
-    let stored : IsTableStored (g.W.Store.files c.args.store.now) kept c.args.number (g.W.Store.files c.add.new.store) new = record {
+    let added : IsTableAdded (g.W.Store.files c.args.store.now) (folder_of kept) c.args.number parts (g.W.Store.files c.add.new.store) (folder_of new) =
+    subst (λ (parts : List Partition). IsTableAdded (g.W.Store.files c.args.store.now) (folder_of kept) c.args.number parts (g.W.Store.files c.add.new.store) (folder_of new)) c.as_slice.ensures.value c.in-Ok.ensures.added in
+    let stored : IsTableKept (g.W.Store.files c.args.store.now) kept c.args.number (g.W.Store.files c.add.new.store) new = record {
       parts = parts;
       of_writes = c.in_ok-parts.ensures;
       added = added;
       keeps = λ i. record { schema = (added.keeps i).schema; infos = c.add.new.self.infos; sealed = c.new.ensures i; active = c.self.inside.active; readers = c.self.inside.readers.items; segments = c.self.inside.segments; answered = c.self.inside.answered; asked = c.self.inside.asked };
     } in
-    subst (λ (k : Keeping). IsFlushAnswered (g.W.Store.files c.args.store.now) k c.args.number (g.W.Store.files c.add.new.store) new replies.Fine) c.self.view_is (inl (refl, stored))
+    subst (λ (k : Keeping). IsFlushKept (g.W.Store.files c.args.store.now) k c.args.number (g.W.Store.files c.add.new.store) new replies.Fine) c.self.view_is (inl (refl, stored))

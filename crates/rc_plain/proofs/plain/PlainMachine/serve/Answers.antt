@@ -1,6 +1,6 @@
 -- An answer is counted, and what is told goes on from there.
 use Rattle.std.proofs.Common.{◌∙◌, sym, subst}
-use Rattle.rc_folder.specs.Counting.{counted}
+use Rattle.rc_folder.specs.Counting.{counted_answer}
 use Rattle.rc_plain.specs.Stands.{Keeping, Stands}
 use Rattle.rc_plain.specs.calls.Counting.{AreSameCounts}
 use Rattle.rc_plain.proofs.Counted.{are-counted, stands-counted}
@@ -19,7 +19,7 @@ returns-clause-figures g c =
       asked = c.self.inside.asked;
     } in
     are-counted c.args.command.now c.in_ok-reply.reply (g.W.Store.asks c.args.store.now) (g.W.Store.asks c.step.new.store) c.args.self.now mid c.count-self-inside.result (subst (AreSameCounts c.args.self.now) (sym c.self.view_is) c.step.ensures.counts)
-    (c.count-self-inside.ensures.counted ∙ (λ i. counted c.args.command.now c.in_ok-reply.reply (c.asks-before.ensures i) (c.asks.ensures i) c.self.inside.answered)) c.count-self-inside.ensures.hits c.count-self-inside.ensures.misses c.in_ok-reply.ensures.told
+    (c.count-self-inside.ensures.counted ∙ (λ i. counted_answer c.args.command.now c.in_ok-reply.reply (c.asks-before.ensures i) (c.asks.ensures i) c.self.inside.answered)) c.count-self-inside.ensures.hits c.count-self-inside.ensures.misses c.in_ok-reply.ensures.told
 
 pub returns-clause-step : goal.returns-clause-step
 returns-clause-step g c = λ m s.

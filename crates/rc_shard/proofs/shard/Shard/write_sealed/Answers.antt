@@ -4,7 +4,7 @@ use Rattle.rc_mutation.specs.declared.mutations.Partition.{Partition}
 use Rattle.rc_mutation.specs.Source.{IsMutation}
 use Rattle.rc_snapshots.specs.laws.Seeing.{all-see, lost-then}
 use Rattle.rc_tfile.specs.TableText.{PartsFit}
-use Rattle.rc_folder.specs.Tabled.{IsAdded}
+use Rattle.rc_folder.specs.Tabled.{IsTableAdded}
 use Rattle.rc_shard.specs.calls.Storing.{IsKept}
 use Rattle.rc_shard.proofs.Flushing.{no-file, parts-of-sealed}
 use Rattle.rc_lookup.specs.Writes.{DoAscend}
@@ -37,7 +37,7 @@ returns-in-Ok-clause-written g c = inl (
   record {
     parts = c.in_ok-parts.parts.items;
     of_writes = λ schema writes later h. c.in_ok-parts.ensures.parts schema writes later h;
-    added = subst (λ (parts : List Partition). IsAdded (g.W.Store.files c.args.store.now) c.args.self.now.folder c.args.number parts (g.W.Store.files c.add.new.store) c.add.new.self) c.as_slice-written.ensures.value c.in-Ok.ensures.added;
+    added = subst (λ (parts : List Partition). IsTableAdded (g.W.Store.files c.args.store.now) c.args.self.now.folder c.args.number parts (g.W.Store.files c.add.new.store) c.add.new.self) c.as_slice-written.ensures.value c.in-Ok.ensures.added;
     gone = λ schema writes later h. c.forget_all.ensures.keeps.stands schema [] later (c.drop_sealed.ensures.gone schema writes later (c.sealed_partitions.ensures.stands schema writes later h));
     seen = all-see c.args.self.now.unstored.chains c.forget_all.new.unstored.chains (lost-then c.args.self.now.unstored.chains c.drop_sealed.new.self.chains c.forget_all.new.unstored.chains (lost-then c.args.self.now.unstored.chains c.sealed_partitions.new.self.chains c.drop_sealed.new.self.chains c.sealed_partitions.ensures.seen.alike c.drop_sealed.ensures.seen) c.forget_all.ensures.keeps.seen);
     budget = c.forget_all.ensures.keeps.budget ∙ (no-more-then c.args.self.now.unstored.chains c.sealed_partitions.new.self.chains c.drop_sealed.new.self.chains (c.what_a_call_leaves_of_the_room.ensures.before _ _ c.sealed_partitions.ensures.left) c.drop_sealed.ensures.room).budget;
