@@ -5,7 +5,7 @@
 --     NoneFell        no counter fell
 --     AreFresh        the figures of a machine that was opened just now
 --     AreCounted      what a command does to the figures
-use Rattle.std.specs.Prelude.{◌≡◌, ◌+◌, ◌-◌, ◌≤◌, ◌^◌, ℕ, Bool, true, false, cond, min, nat_eq, Option, Some, None, IfSome}
+use Rattle.std.specs.Prelude.{◌≡◌, ◌-◌, ◌≤◌, ℕ, Bool, true, false, cond, nat_eq, Option, Some, None, IfSome}
 use Rattle.rc_outside.specs.Faults.{raised}
 use Rattle.rc_lines.specs.declared.commands.Command.{Command}
 use Rattle.rc_lines.specs.declared.commands.Command.TheVariants.{OpenRead, Read, Stats}

@@ -2,7 +2,7 @@
 --     Takes, Stops      it takes a step, or memory runs out
 --     most_asks          how many ranges it may ask for
 --     FaultsAreCounted      a reply that tells a fault comes only where the store failed
-use Rattle.std.specs.Prelude.{◌≡◌, ℕ, ◌+◌, ◌*◌, ◌/◌, ◌≤◌, ◌⊎◌, List, [], ◌∷◌, length, sum_by, Option, Result, IfOk, ⊤}
+use Rattle.std.specs.Prelude.{◌≡◌, ℕ, ◌+◌, ◌*◌, ◌/◌, ◌≤◌, ◌⊎◌, List, length, sum_by, Option, Result, IfOk, ⊤}
 use Rattle.rc_outside.specs.Files.{Files}
 use Rattle.rc_outside.specs.Faults.{Rose}
 use Rattle.rc_lines.specs.declared.commands.Command.{Command}

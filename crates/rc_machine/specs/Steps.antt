@@ -3,7 +3,7 @@
 --     IsResaid, Gives            what they say to one that is read from, and the lines that it is given next
 --     Stores                     how sealed writes become a table
 --     Steps, AfterSteps          one step, and several
-use Rattle.std.specs.Prelude.{◌≡◌, ◌≢◌, ℕ, ◌+◌, ◌-◌, ◌≤◌, ◌==◌, ◌⊎◌, Bool, true, false, not, nat_lt, List, [], ◌∷◌, ◌++◌, length, take, fold, Some, None, MatchBool, MatchOption, option_map, if◌then◌else◌}
+use Rattle.std.specs.Prelude.{◌≡◌, ◌≢◌, ℕ, ◌+◌, ◌-◌, ◌≤◌, ◌==◌, ◌⊎◌, Bool, true, false, not, nat_lt, List, [], ◌∷◌, ◌++◌, length, take, fold, None, MatchBool, MatchOption, option_map, if◌then◌else◌}
 use Rattle.std.specs.List.{filter, AllByRecursion}
 use Rattle.std.specs.Map.{set_value}
 use Rattle.std.specs.FinMap as map

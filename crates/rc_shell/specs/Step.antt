@@ -3,7 +3,7 @@
 --     Moment              what holds between two lines
 --     LineStep            what a line is answered, and the next moment
 --     EndsRun                the lines that end the run
-use Rattle.std.specs.Prelude.{◌≡◌, ℕ, ◌+◌, ◌-◌, ◌*◌, ◌^◌, ◌≤◌, ◌||◌, ◌&&◌, Bool, not, List, [], ◌++◌, length, Option, Some, None, Result, Ok, Err, IfSome, IsTrue, codes, decimal, min, nat_eq, if◌then◌else◌, ⊤}
+use Rattle.std.specs.Prelude.{◌≡◌, ℕ, ◌+◌, ◌-◌, ◌*◌, ◌^◌, ◌≤◌, ◌||◌, ◌&&◌, Bool, not, List, [], ◌++◌, length, Option, Some, None, Result, Ok, Err, IfSome, IsTrue, codes, decimal, min, nat_eq, if◌then◌else◌}
 use Rattle.std.specs.Option.{option_map_or, option_or}
 use Rattle.std.specs.FinMap as map
 use Rattle.rc_outside.specs.Faults.{Rose}

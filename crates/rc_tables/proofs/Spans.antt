@@ -21,7 +21,6 @@ use Rattle.rc_tables.specs.declared.locating.Span.{Span}
 use Rattle.rc_tables.specs.Located.{ArePartItems, IsEntryAt, EndsAt, MayLie, SaysNoPart, SaysNoSpan, SaysOf, SaysSpan, glimpsed, WhereTold}
 use Rattle.rc_tables.specs.calls.Located.{IsLocated, IsLocatedOf, IsSpan}
 use Rattle.rc_tables.specs.calls.Rebuilt.{number_at_front}
-use Rattle.rc_mutation.specs.Fragments.{rows_and_changes}
 use Rattle.rc_tables.proofs.Places.{where_from, where_to, begins_there, ends_there, in_order, lies_there, reads_within, key_is, is_mutation, items_there, comes_there}
 use Rattle.rc_tables.proofs.Coming.{change_fits}
 use Rattle.rc_tables.proofs.Spelled.{found_is}

@@ -5,7 +5,7 @@ use Rattle.std.specs.Option.{unwrap_or}
 use Rattle.rc_position.specs.declared.positions.Pos.{Pos}
 use Rattle.rc_position.specs.Position.{row_pos}
 use Rattle.rc_tfile.specs.declared.blocks.Block.{Block}
-use Rattle.rc_tfile.specs.Items.{Item, PartItem, RowItem, ChangeItem, EndItem, StopItem, EntryItem, BlockItem, TailItem, item_code}
+use Rattle.rc_tfile.specs.Items.{Item, RowItem, ChangeItem, EndItem, StopItem, EntryItem, BlockItem, TailItem, item_code}
 use Rattle.rc_tfile.specs.Before.{ItemsBefore, offset, last_part, tomb_in_force}
 
 -- the longest block of more than one fragment, in bytes
