@@ -1,5 +1,5 @@
 -- What a line means where the program serves its command.
-use Rattle.std.proofs.Common.{◌≡◌, Bool, true, false, Result, Ok, Err, refl, ap, sym, subst, ◌∙◌}
+use Rattle.std.proofs.Common.{◌≡◌, Bool, true, false, Result, Ok, Err, refl, sym, subst, ◌∙◌}
 use Rattle.std.specs.Prelude.{if◌then◌else◌}
 use Rattle.rc_lines.specs.declared.commands.Command.{Command}
 use Rattle.rc_lines.specs.declared.commands.Command.TheVariants.{Nothing, SetSchema, Put, OpenRead, Read, Close, Flush, FlushBegin, FlushStep, Evict, Compact, Clean, Stats}
@@ -39,13 +39,3 @@ served_is P bad (Ok command) all refusal e = elim (is_built command) as (λ b. (
   | true ↦ λ f. absurd (cc)
   | false ↦ λ f. (let is : BadLine ≡ refusal = cc in subst P is bad)
 ] (sym (served_as command) ∙ e)
-
--- a line of a command that is served, of one that is not, and one that is refused
-pub served_built : (meaning : Result Command Refusal) (command : Command) → meaning ≡ Ok command → is_built command ≡ true → served meaning ≡ Ok command
-served_built meaning command e b = ap served e ∙ served_as command ∙ ap (λ c. if c then Ok command else Err BadLine) b
-
-pub served_bad : (meaning : Result Command Refusal) (command : Command) → meaning ≡ Ok command → is_built command ≡ false → served meaning ≡ Err BadLine
-served_bad meaning command e b = ap served e ∙ served_as command ∙ ap (λ c. if c then Ok command else Err BadLine) b
-
-pub served_refused : (meaning : Result Command Refusal) (refusal : Refusal) → meaning ≡ Err refusal → served meaning ≡ Err refusal
-served_refused meaning refusal e = ap served e

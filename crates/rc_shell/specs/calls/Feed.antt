@@ -77,8 +77,8 @@ module _ {State Seen : Type 0} (Step : State → List ℕ → List ℕ → State
   -- What is due for bytes in the middle of the input: the texts for some first lines; or these, and a last line for the next one.
   abbrev pub DueOfBytes : State → List ℕ → Seen → Status → List (List ℕ) → Type 0
   DueOfBytes old bytes after statuses.NoMemory pieces = (more : List ℕ) × (end : State) × Served Step old bytes pieces more end × Leaves end after
-  DueOfBytes old bytes after statuses.BadTable pieces = (more : List ℕ) × IsEnded Step Ends Leaves ⊥ old bytes after statuses.BadTable pieces more
-  DueOfBytes old bytes after statuses.StoreFault pieces = (more : List ℕ) × IsEnded Step Ends Leaves ⊥ old bytes after statuses.StoreFault pieces more
+  DueOfBytes old bytes after statuses.BadTable pieces = (more : List ℕ) × IsEnded ⊥ old bytes after statuses.BadTable pieces more
+  DueOfBytes old bytes after statuses.StoreFault pieces = (more : List ℕ) × IsEnded ⊥ old bytes after statuses.StoreFault pieces more
   DueOfBytes old bytes after status pieces = ⊥
 
   -- What serving one line did: its reply was written whole, and the server stands for a next state; or it stopped.
