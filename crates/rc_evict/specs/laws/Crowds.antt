@@ -166,6 +166,22 @@ loses-gone S count old new segments live versions counts =
       cause = inl ((ap (λ (c : Counts). c.evicted) counts, ap (λ (c : Counts). c.skipped) counts), gone_live (live_bytes old.region) (live_bytes new.region) (versions_of old) (versions_of new) count old.counts.shrunk new.counts.shrunk live versions shrunk);
     }
 
+shrunk_live : (a b u v h i : ℕ) → v ≡ u → i ≡ h + (a - b) → a + 152 * v + h ≤ b + 152 * (u + 0) + i
+shrunk_live a b u v h i p q = omega (arith, p, q)
+
+-- chains became smaller, by so much as is counted
+pub loses-shrunk : (S : ℕ) (old new : Memory) → length new.region.usages ≡ length old.region.usages → versions_of new ≡ versions_of old → LosesNothing old new → old.counts.shrunk ≤ new.counts.shrunk
+    → (new.counts.shrunk ≡ old.counts.shrunk + (live_bytes old.region - live_bytes new.region)) ⊎ (2 ^ 64 - 1 ≤ new.counts.shrunk) → LosesWhereCrowded S 0 old new
+loses-shrunk S old new segments versions nothing shrunk counted = record {
+  segments = segments;
+  versions = same_most (versions_of old) (versions_of new) versions;
+  shrunk = shrunk;
+  cause = elim counted [
+    | inl is ↦ inl (nothing, shrunk_live (live_bytes old.region) (live_bytes new.region) (versions_of old) (versions_of new) old.counts.shrunk new.counts.shrunk versions is)
+    | inr top ↦ inr (inr top)
+  ];
+}
+
 -- ---- steps in a region that is nearly full
 
 full_crowded : (least a b less u v h i : ℕ) → least < a → b ≡ a → v ≡ u → i ≡ h → least + 152 * v + h < b + less + 152 * (u + 0) + i
