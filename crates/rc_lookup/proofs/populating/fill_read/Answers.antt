@@ -13,7 +13,9 @@ use Rattle.rc_cacheread.specs.Passing.{IsKnownOver}
 use Rattle.rc_row_cache.specs.Fillers.{FillerKnows, losses}
 use Rattle.rc_cached.specs.Stands.{StandsForWrites}
 use Rattle.rc_snapshots.specs.Streams.{first_position}
-use Rattle.rc_lookup.specs.calls.Filling.{AllWritten, SaysAll}
+use Rattle.rc_row_cache.specs.Crowds.{loses-nothing}
+use Rattle.rc_lookup.specs.calls.Filling.{AllFit, AllWritten, SaysAll}
+use Rattle.rc_lookup.proofs.Limits.{all-fit}
 use Rattle.rc_lookup.proofs.Gathered.{on-also}
 use Rattle.rc_lookup.proofs.Said.{all-written, says-all}
 use Rattle.rc_lookup.proofs.Turns.{FillLaws, IsFillerOf, at-filler, at-snapshot, filled-through, still-filler}
@@ -44,7 +46,7 @@ returns-in-Ok-clause-through g c =
     let S = g.row.S in
     let s = c.args.snap.now in
     let f = c.of-filler.result in
-    let h = c.fill_all.new.filler in
+    let h = c.of-filler.result in
     let old = c.args.chains.now in
     let new = c.fill_all.new.home in
     let of : IsFillerOf S s f = (c.of-filler.ensures.chain, c.of-filler.ensures.pin) in
@@ -68,7 +70,7 @@ returns-in-Ok-clause-may g c = λ may.
     let S = g.row.S in
     let s = c.args.snap.now in
     let f = c.of-filler.result in
-    let h = c.fill_all.new.filler in
+    let h = c.of-filler.result in
     let old = c.args.chains.now in
     let new = c.fill_all.new.home in
     let of : IsFillerOf S s f = (c.of-filler.ensures.chain, c.of-filler.ensures.pin) in
@@ -86,7 +88,7 @@ returns-in-Ok-clause-stands g c = λ writes stands same.
     let S = g.row.S in
     let s = c.args.snap.now in
     let f = c.of-filler.result in
-    let h = c.fill_all.new.filler in
+    let h = c.of-filler.result in
     let old = c.args.chains.now in
     let new = c.fill_all.new.home in
     let of : IsFillerOf S s f = (c.of-filler.ensures.chain, c.of-filler.ensures.pin) in
@@ -100,7 +102,7 @@ returns-in-Ok-clause-known g c =
     let S = g.row.S in
     let s = c.args.snap.now in
     let f = c.of-filler.result in
-    let h = c.fill_all.new.filler in
+    let h = c.of-filler.result in
     let old = c.args.chains.now in
     let new = c.fill_all.new.home in
     let of : IsFillerOf S s f = (c.of-filler.ensures.chain, c.of-filler.ensures.pin) in
@@ -110,3 +112,12 @@ returns-in-Ok-clause-known g c =
     (MayFill old s.chain s.pin → NoneLost (losses old) (losses new) → IsKnownOver (Knows new s) first_position end_position)
     c.fill_all.result c.fill_all.ensures.known
     (λ k may none. at-snapshot S (λ id pin. IsKnownOver (IsKnownAs (kind_in (chain_at new id)) (versions_in (chain_at new id) pin)) first_position end_position) s h still (k (at-filler S (MayFill old) s f of may) none))
+
+pub returns-in-Ok-clause-loses : goal.returns-in-Ok-clause-loses
+returns-in-Ok-clause-loses g c = λ schema limits fits.
+    let m = c.args.read.now in
+    let list : c.as_slice.result.now ≡ fragments m = c.as_slice.ensures ∙ subst (λ r. IfOk r (λ (l : List Frag). l ≡ fragments m)) c.in-Ok.is c.fragments.ensures in
+    c.fill_all.ensures.loses (subst AllFit (sym list) (all-fit schema m c.holds_together.ensures limits fits))
+
+pub returns-in-Err-clause-loses : goal.returns-in-Err-clause-loses
+returns-in-Err-clause-loses g c = λ schema limits fits. loses-nothing g.row.S c.args.chains.now

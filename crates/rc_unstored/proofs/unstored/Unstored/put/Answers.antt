@@ -28,7 +28,7 @@ returns-in-NoRoom-clause-full g c e =
     let r = c.requires.kept in
     full-for g.row.S c.args.schema.now c.args.w.now (both_in g.row.S c.make_room.new.chains c.args.self.now.sealed c.args.self.now.active) c.args.self.now.chains c.need-need.result
     (made-beside c.evictions_spare_memtables_and_readers.ensures.memtable g.row.S c.args.self.now.chains c.make_room.new.chains c.known.ensures.rule c.make_room.ensures.made c.args.schema.now c.args.self.now.active r.1 r.2.active c.args.w.now.key)
-    c.need-need.ensures.least (c.make_room.ensures.none c.in-NoRoom.is)
+    c.need-need.ensures.least (let none = c.make_room.ensures.none c.in-NoRoom.is in (none.0, none.1, none.2))
 
 pub returns-in_ok-apply-in-Room-clause-stands : goal.returns-in_ok-apply-in-Room-clause-stands
 returns-in_ok-apply-in-Room-clause-stands g c writes later h =
