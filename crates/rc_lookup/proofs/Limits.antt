@@ -1,5 +1,5 @@
 -- The keys of what is read of a partition are within the limits, so nothing of it is skipped but for want of room.
-use Rattle.std.specs.Prelude.{◌≡◌, ◌≢◌, Bool, true, false, cond, All, IsTrue, List, [], ◌∷◌, ◌++◌, Option, Some, None, map as list_map}
+use Rattle.std.specs.Prelude.{◌≡◌, ◌≢◌, ◌<◌, length, Bool, true, false, cond, All, IsTrue, List, [], ◌∷◌, ◌++◌, Option, Some, None, map as list_map}
 use Rattle.std.proofs.Common.{sym, subst, arith}
 use Rattle.std.proofs.lemmas.List.Elements.{All-cons, All-head, All-nil, All-tail}
 use Rattle.std.specs.Ordering.{is_lt}
@@ -20,7 +20,8 @@ use Rattle.rc_mutation.specs.Fragments.{begins_at, changes_of, fragments, is_wri
 use Rattle.rc_mutation.specs.Source.{IsMutation}
 use Rattle.rc_mutation.specs.laws.FragMerge.{changes-placed, fragment_of, merge, merge-in_order, merge_into, rows-placed}
 use Rattle.rc_writes.specs.Allowed.{ChangeFits}
-use Rattle.rc_lookup.specs.calls.Filling.{AllFit, IsFit, IsWritten, past}
+use Rattle.rc_core.specs.Version.{end_position}
+use Rattle.rc_lookup.specs.calls.Filling.{AllFit, IsFit, IsWritten, SaysAll, SaysNone, past}
 use Rattle.rc_lookup.proofs.Said.{spelled}
 
 pub none-fits : KeyFits []
@@ -114,3 +115,8 @@ written-row f key row e h = subst IsWritten e h
 
 pub fit-change : (f : Frag) (from : Pos) (tomb : Option Tomb) → f ≡ frag.Change from tomb → IsFit f → KeyFits from.prefix
 fit-change f from tomb e h = subst IsFit e h
+
+-- where no fragment is left, writes say nothing up to the end
+pub none-left : (writes : List Mutation) (x : Pos) (tomb : Option Tomb) (fs : List Frag) → length fs < 1 → SaysAll writes x tomb fs → SaysNone writes x end_position tomb
+none-left writes x tomb [] few says = says
+none-left writes x tomb (f ∷ fs) few says = absurd (omega (arith, few))

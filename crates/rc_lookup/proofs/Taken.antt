@@ -1,5 +1,5 @@
 -- What one fill of a stream's filler did.
-use Rattle.std.proofs.Common.{◌≤◌, ℕ, List, refl, arith}
+use Rattle.std.proofs.Common.{◌+◌, ◌≤◌, ℕ, List, arith}
 use Rattle.rc_cell.specs.declared.rows.Row.{Row}
 use Rattle.rc_mutation.specs.declared.mutations.Mutation.{Mutation}
 use Rattle.rc_position.specs.declared.positions.Pos.{Pos}

@@ -33,7 +33,7 @@ ghost use Rattle.rc_unstored.specs.Steps.{IsNotPut, IsPutBehind, IsPutRefused};
 ghost use Rattle.rc_row_cache.specs.Calls.{IsEnterRefused, IsEntered, IsKeptOut, IsTakenOf};
 ghost use Rattle.rc_row_cache.specs.Leaving.{AreCachesSame, IsRoomMadeBeside};
 ghost use Rattle.rc_row_cache.specs.Saying.{AreFillsDone};
-ghost use Rattle.rc_row_cache.specs.Footprint.{AreInUse, HaveOneVersion, NoUpdateStands, cache_bytes, cache_snapshots, memtable_bytes};
+ghost use Rattle.rc_row_cache.specs.Footprint.{AreInUse, HaveOneVersion, LosesBeforeWrite, NoUpdateStands, cache_bytes, cache_snapshots, memtable_bytes};
 
 use crate::laws::calls_on_memtables_leave_the_cache;
 use rc_entries::laws::what_an_invalidation_leaves;
@@ -53,6 +53,16 @@ pub fn a_write_is_of_a_memtable()
     ensures put { (S : ℕ) (schema : SchemaValue) (w : Write) (old new : Unstored S) (writes later : List Write) → IsPutBehind schema w old new → IsRecency old.chains → HaveWrites schema old writes later → IsLiveInChains new.chains → memtable_bytes new.chains ≤ memtable_bytes old.chains + weight w.change }
 {
     evictions_leave_the_use_of_a_chain();
+    what_leaves_the_chains_of_both_leaves_their_writes();
+}
+
+/// What is evicted for a write is evicted where memory is crowded, where what is live is what all chains take: also where no room could be made, and the write was not put.
+pub fn a_write_evicts_where_memory_is_crowded()
+    ensures put { (S : ℕ) (schema : SchemaValue) (w : Write) (old new : Unstored S) (writes later : List Write) → IsPutBehind schema w old new → IsRecency old.chains → HaveWrites schema old writes later → LosesBeforeWrite S old.chains new.chains }
+    ensures not_put { (S : ℕ) (old new : Unstored S) → IsNotPut old new → IsRecency old.chains → IsLiveInChains new.chains → LosesBeforeWrite S old.chains new.chains }
+{
+    evictions_leave_the_use_of_a_chain();
+    evictions_spare_memtables_and_readers();
     what_leaves_the_chains_of_both_leaves_their_writes();
 }
 

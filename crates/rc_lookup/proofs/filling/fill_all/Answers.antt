@@ -1,13 +1,13 @@
 -- How far the fragments are filled at each round, and at the end.
-use Rattle.std.proofs.Common.{◌≡◌, ◌∷◌, None, sym, subst}
+use Rattle.std.proofs.Common.{◌≡◌, ◌∷◌, None, sym, subst, arith}
 use Rattle.std.specs.Prelude.{◌-◌, drop, length, take}
 use Rattle.rc_lookup.specs.calls.Words.{of_its_filler}
 use Rattle.rc_core.specs.Version.{end_position}
 use Rattle.rc_position.specs.declared.positions.Pos.{Pos}
 use Rattle.rc_rowcode.specs.Spelling.{KeyFits}
 use Rattle.rc_row_cache.specs.Crowds.{loses-after, loses-nothing}
-use Rattle.rc_lookup.specs.calls.Filling.{AllFit, AllWritten, IsFilling, past}
-use Rattle.rc_lookup.proofs.Limits.{none-fits, past-fits}
+use Rattle.rc_lookup.specs.calls.Filling.{AllFit, AllWritten, IsFilling, SaysAll, SaysNone, past}
+use Rattle.rc_lookup.proofs.Limits.{none-fits, none-left, past-fits}
 use Rattle.rc_lookup.proofs.Fills.{filled-then, filling-more, filling-none, known-gap, known-then, split-first}
 use Rattle.rc_lookup.proofs.filling.fill_all.Goals as goal
 
@@ -71,3 +71,30 @@ pub returns-clause-loses : goal.returns-clause-loses
 returns-clause-loses g c = λ fit.
     let l = c.loop-left.invariant.1 fit in
     loses-after g.row.S 0 c.args.home.now c.loop-left.home c.fill_gap.new.home l.2 (c.fill_gap.ensures.loses l.0 (subst (λ (x : Pos). KeyFits x.prefix) (sym c.bare-end.ensures) none-fits))
+
+pub fill_gap-requires : goal.fill_gap-requires
+fill_gap-requires g c =
+    let i = c.loop-left.invariant.0 in
+    let source = c.requires.source in
+    let now = i.stands source.0 source.1 source.2 in
+    let x = c.loop-left.reached.at in
+    let tomb = c.loop-left.reached.tomb in
+    (omega arith, (i.filled.ready, (source.0, now.0, subst (λ (y : Pos). SaysNone source.0 x y tomb) (sym c.bare-end.ensures) (none-left source.0 x tomb c.loop-left.left.now c.in_default.len_below now.1))))
+
+pub returns-in-Err-clause-stands : goal.returns-in-Err-clause-stands
+returns-in-Err-clause-stands g c = λ writes stood says.
+    let i = c.loop-left.invariant.0 in
+    let f = c.frag-item.result in
+    let left = c.loop-left.left.now in
+    let more = take (length left - 1) (drop 1 left) in
+    let split : left ≡ f ∷ more = split-first left f _ c.in-len1-up.len_at_least c.frag-item.is in
+    let now = i.stands writes stood says in
+    c.fill_one.ensures.stands writes now.0 (subst (SaysAll writes c.loop-left.reached.at c.loop-left.reached.tomb) split now.1).0
+
+pub returns-clause-stands : goal.returns-clause-stands
+returns-clause-stands g c = λ writes stood says.
+    let i = c.loop-left.invariant.0 in
+    let now = i.stands writes stood says in
+    let x = c.loop-left.reached.at in
+    let tomb = c.loop-left.reached.tomb in
+    c.fill_gap.ensures.stands writes now.0 (subst (λ (y : Pos). SaysNone writes x y tomb) (sym c.bare-end.ensures) (none-left writes x tomb c.loop-left.left.now c.in_default.len_below now.1))

@@ -1,5 +1,5 @@
 -- The fragments are what writes say that say the same, and the filler is that of the snapshot.
-use Rattle.std.proofs.Common.{◌≡◌, List, None, sym, ap, ◌∙◌, subst}
+use Rattle.std.proofs.Common.{◌≡◌, List, None, sym, ap, ◌∙◌, subst, arith}
 use Rattle.std.specs.Prelude.{IfOk}
 use Rattle.rc_mutation.specs.declared.fragments.Frag.{Frag}
 use Rattle.rc_mutation.specs.Fragments.{fragments, rows_and_changes}
@@ -11,7 +11,7 @@ use Rattle.rc_stream.specs.Snapshot.{NoneLost}
 use Rattle.rc_cursor.specs.Snapshots.{IsKnownAs, Knows, kind_in, versions_in}
 use Rattle.rc_cacheread.specs.Passing.{IsKnownOver}
 use Rattle.rc_row_cache.specs.Fillers.{FillerKnows, losses}
-use Rattle.rc_cached.specs.Stands.{StandsForWrites}
+use Rattle.rc_cached.specs.Stands.{HasCacheSnapshot, StandsForWrites}
 use Rattle.rc_snapshots.specs.Streams.{first_position}
 use Rattle.rc_row_cache.specs.Crowds.{loses-nothing}
 use Rattle.rc_lookup.specs.calls.Filling.{AllFit, AllWritten, SaysAll}
@@ -21,25 +21,28 @@ use Rattle.rc_lookup.proofs.Said.{all-written, says-all}
 use Rattle.rc_lookup.proofs.Turns.{FillLaws, IsFillerOf, at-filler, at-snapshot, filled-through, still-filler}
 use Rattle.rc_lookup.proofs.populating.fill_read.Goals as goal
 
-pub fill_all-requires-clause-written : goal.fill_all-requires-clause-written
-fill_all-requires-clause-written g c =
-    let m = c.args.read.now in
-    let is = c.holds_together.ensures in
-    let left : (stream_of (fragments m)).left ≡ rows_and_changes m = ap (λ (t : Stream). t.left) (c.the_stream_of_a_mutation.ensures.fragments m is) in
-    let reads = c.a_mutations_stream_reads_it.ensures.reads c.requires.fits.0 m is c.requires.fits.1 in
-    let list : c.as_slice.result.now ≡ fragments m = c.as_slice.ensures ∙ subst (λ r. IfOk r (λ (l : List Frag). l ≡ fragments m)) c.in-Ok.is c.fragments.ensures in
-    subst AllWritten (sym list) (all-written m left reads)
-
-pub fill_all-requires-clause-source : goal.fill_all-requires-clause-source
-fill_all-requires-clause-source g c =
+pub fill_all-requires : goal.fill_all-requires
+fill_all-requires g c =
+    let S = g.row.S in
     let m = c.args.read.now in
     let is = c.holds_together.ensures in
     let left : (stream_of (fragments m)).left ≡ rows_and_changes m = ap (λ (t : Stream). t.left) (c.the_stream_of_a_mutation.ensures.fragments m is) in
     let reads = c.a_mutations_stream_reads_it.ensures.reads c.requires.fits.0 m is c.requires.fits.1 in
     let list : c.as_slice.result.now ≡ fragments m = c.as_slice.ensures ∙ subst (λ r. IfOk r (λ (l : List Frag). l ≡ fragments m)) c.in-Ok.is c.fragments.ensures in
     let writes = c.requires.stands.0 in
-    let of : IsFillerOf g.row.S c.args.snap.now c.of-filler.result = (c.of-filler.ensures.chain, c.of-filler.ensures.pin) in
-    (writes, at-filler g.row.S (λ id pin. StandsForWrites g.row.S c.args.chains.now id pin writes) c.args.snap.now c.of-filler.result of c.requires.stands.1, subst (SaysAll writes first_position None) (sym list) (says-all m left reads writes c.requires.stands.2))
+    let s = c.args.snap.now in
+    let f = c.of-filler.result in
+    let old = c.args.chains.now in
+    let of : IsFillerOf S s f = (c.of-filler.ensures.chain, c.of-filler.ensures.pin) in (
+      omega arith,
+      (
+        record { snapshot = at-filler S (λ id pin. HasCacheSnapshot old id pin) s f of c.requires.stands.1.snapshot; roomy = c.requires.roomy },
+        (
+          subst AllWritten (sym list) (all-written m left reads),
+          (writes, at-filler S (λ id pin. StandsForWrites S old id pin writes) s f of c.requires.stands.1, subst (SaysAll writes first_position None) (sym list) (says-all m left reads writes c.requires.stands.2)),
+        ),
+      ),
+    )
 
 pub returns-in-Ok-clause-through : goal.returns-in-Ok-clause-through
 returns-in-Ok-clause-through g c =

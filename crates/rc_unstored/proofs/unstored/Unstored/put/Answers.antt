@@ -1,4 +1,4 @@
-use Rattle.std.proofs.Common.{◌<◌, ◌-◌, ◌*◌, ◌/◌, length, sym, ap, refl, subst, arith}
+use Rattle.std.proofs.Common.{◌∙◌, ◌<◌, ◌-◌, ◌*◌, ◌/◌, length, sym, ap, refl, subst, arith}
 use Rattle.lsa_move.specs.Room.{Tight}
 use Rattle.lsa_pool.specs.Room.{spare_of}
 use Rattle.lsa_region.specs.Region.{View, live_bytes}
@@ -85,3 +85,14 @@ a_tight_region_is_nearly_full-requires g c =
 
 pub returns-in-NoRoom-clause-crowded : goal.returns-in-NoRoom-clause-crowded
 returns-in-NoRoom-clause-crowded g c e = subst (λ (v : View). 3 * g.row.S / 4 * (length v.usages - 2) < live_bytes v) c.region.ensures c.a_tight_region_is_nearly_full.ensures.live
+
+-- where as much is spare as is ever needed nothing goes
+pub returns-in-NoRoom-clause-spared : goal.returns-in-NoRoom-clause-spared
+returns-in-NoRoom-clause-spared g c = λ enough.
+    let few = c.need-need.ensures.few in
+    ap (λ (m : Memory). m.counts) (c.make_room.ensures.idle (omega (arith, few, enough)))
+
+pub returns-in_ok-apply-in-Room-clause-spared : goal.returns-in_ok-apply-in-Room-clause-spared
+returns-in_ok-apply-in-Room-clause-spared g c = λ enough.
+    let few = c.need-need.ensures.few in
+    c.in_ok-apply-in-Room.ensures.applied.others.counts ∙ ap (λ (m : Memory). m.counts) (c.make_room.ensures.idle (omega (arith, few, enough)))
