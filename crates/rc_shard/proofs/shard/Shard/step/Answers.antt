@@ -235,7 +235,7 @@ returns-in-Compact-clause-loses g c = (let same = c.compact.ensures.emptied.unto
 
 -- where it is lost
 pub returns-in-Put-clause-crowds : goal.returns-in-Put-clause-crowds
-returns-in-Put-clause-crowds g c = rw (c.in-Put.is) (on-ok c.put.result _ tt)
+returns-in-Put-clause-crowds g c = rw (c.in-Put.is) c.put.ensures.crowds
 
 pub returns-in-Read-clause-crowds : goal.returns-in-Read-clause-crowds
 returns-in-Read-clause-crowds g c = rw (c.in-Read.is) (on-ok c.read.result _ tt)
