@@ -66,6 +66,12 @@ pub fn a_write_evicts_where_memory_is_crowded()
     what_leaves_the_chains_of_both_leaves_their_writes();
 }
 
+/// Where the sealed writes are let go nothing is counted, and so where chains are detached.
+pub fn what_is_let_go_counts_nothing()
+    ensures let_go { (S : ℕ) (schema : SchemaValue) (u : Unstored S) (new : Memory) (writes later : List Write) → DoAscend u.sealed → HaveWrites schema u writes later → AreLetGo (map (λ e. e.1) u.sealed) u.chains new → new.counts ≡ u.chains.counts }
+    ensures detached { (id : ℕ) (old new : Memory) → IsDetached id old new → new.counts ≡ old.counts }
+{}
+
 /// By no other call memtables take more: where objects moved, where objects were evicted, where room was made, where no write was put, where a snapshot was taken or taken back, of whatever chain, where the sealed writes were let go; and where a partition entered the row cache or was kept out, or memory was refused for it, where fills were done, where partitions were invalidated or detached, where a chain is gone, and where chains were read.
 pub fn what_calls_leave_of_memtables()
     ensures moved { (old new : Memory) → IsUntouched old new → memtable_bytes new ≤ memtable_bytes old }

@@ -52,6 +52,7 @@ use crate::putting::put_in;
 use rc_census::census;
 use rc_folder::{Answered, Folder, Machine, OpenErr};
 use rc_lines::{Command, Figures, Refusal, Reply};
+use rc_lookup::footprint::what_is_let_go_counts_nothing;
 use rc_lookup::row_cache_laws::the_cache_says_what_lies_below;
 use rc_lookup::snapshots_laws::a_snapshot_sees_what_it_saw;
 use rc_lookup::unstored_laws::{
@@ -532,6 +533,7 @@ impl Shard {
         ensures err { OnErr result (Stops ⟦<Shard as Machine>⟧.stands (W.files store.old) self.old Command.Flush (W.files store.new) self.new) }
         ensures faults { FaultsAreCounted result (W.faults store.old) (W.faults store.new) }
         ensures asks { W.asks store.new ≡ W.asks store.old }
+        ensures same { OnOk result (self.new.unstored.chains.counts ≡ self.old.unstored.chains.counts) }
         ensures counts { CountsStay self.old self.new }
     {
         what_is_left_stays_where_the_snapshots_see_the_same::<131_072>();
@@ -562,8 +564,10 @@ impl Shard {
         ensures faults { FaultsAreCounted result (W.faults store.old) (W.faults store.new) }
         ensures asks { W.asks store.new ≡ W.asks store.old }
         ensures readers { self.new.readers ≡ self.old.readers }
+        ensures same { OnOk result (self.new.unstored.chains.counts ≡ self.old.unstored.chains.counts) }
         ensures counts { CountsStay self.old self.new }
     {
+        what_is_let_go_counts_nothing();
         what_a_call_leaves_of_the_room();
         what_calls_leave_of_the_cache();
         self.unstored.sealed.known();

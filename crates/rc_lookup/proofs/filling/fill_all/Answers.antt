@@ -14,7 +14,7 @@ use Rattle.rc_lookup.proofs.filling.fill_all.Goals as goal
 pub loop-left-init : goal.loop-left-init
 loop-left-init g c = (
   subst (λ x. IsFilling (of_its_filler g.row.S) c.args.frags.now c.args.filler.now c.args.home.now c.args.filler.now c.args.home.now x None c.args.frags.now) (sym c.bare.ensures)
-  (filling-none (of_its_filler g.row.S) c.args.frags.now c.args.filler.now c.args.home.now c.requires.ready c.requires.written),
+      (filling-none (of_its_filler g.row.S) c.args.frags.now c.args.filler.now c.args.home.now c.requires.ready c.requires.written),
   λ fit. (subst (λ (x : Pos). KeyFits x.prefix) (sym c.bare.ensures) none-fits, fit, loses-nothing g.row.S c.args.home.now),
 )
 
@@ -42,8 +42,7 @@ loop-left-preserved g c =
     let left = c.loop-left.left.now in
     let more = take (length left - 1) (drop 1 left) in
     let split : left ≡ f ∷ more = split-first left f _ c.in-len1-up.len_at_least c.frag-item.is in
-    let now = filling-more (of_its_filler g.row.S) c.args.frags.now c.args.filler.now c.args.home.now c.args.filler.now c.loop-left.home c.args.filler.now c.fill_one.new.home x tomb f more (subst (λ fs. IsFilling (of_its_filler g.row.S) c.args.frags.now c.args.filler.now c.args.home.now c.args.filler.now c.loop-left.home x tomb fs) split i) c.fill_one.ensures.filled c.in-Ok.ensures.known c.fill_one.ensures.stands in
-    (
+    let now = filling-more (of_its_filler g.row.S) c.args.frags.now c.args.filler.now c.args.home.now c.args.filler.now c.loop-left.home c.args.filler.now c.fill_one.new.home x tomb f more (subst (λ fs. IsFilling (of_its_filler g.row.S) c.args.frags.now c.args.filler.now c.args.home.now c.args.filler.now c.loop-left.home x tomb fs) split i) c.fill_one.ensures.filled c.in-Ok.ensures.known c.fill_one.ensures.stands in (
       subst (λ y. IsFilling (of_its_filler g.row.S) c.args.frags.now c.args.filler.now c.args.home.now c.args.filler.now c.fill_one.new.home y c.fill_one.new.reached.tomb more) (sym c.in-Ok.ensures.at) (subst (λ t. IsFilling (of_its_filler g.row.S) c.args.frags.now c.args.filler.now c.args.home.now c.args.filler.now c.fill_one.new.home (past x f) t more) (sym c.in-Ok.ensures.tomb) now),
       λ fit.
           let l = c.loop-left.invariant.1 fit in

@@ -1,5 +1,5 @@
 -- Each step is that of its command.
-use Rattle.std.proofs.Common.{◌+◌, ◌∙◌, ap, refl}
+use Rattle.std.proofs.Common.{◌+◌, ◌∙◌, ap, inl, refl}
 use Rattle.rc_shard.proofs.Standing.{on-err-weaker}
 use Rattle.rc_shard.specs.declared.shard.Shard.{Shard}
 use Rattle.rc_shard.proofs.Taking.{keeps-files, keeps-kept}
@@ -241,7 +241,7 @@ pub returns-in-Read-clause-crowds : goal.returns-in-Read-clause-crowds
 returns-in-Read-clause-crowds g c = rw (c.in-Read.is) (on-ok c.read.result _ tt)
 
 pub returns-in-Flush-clause-crowds : goal.returns-in-Flush-clause-crowds
-returns-in-Flush-clause-crowds g c = rw (c.in-Flush.is) (on-ok c.flush.result _ tt)
+returns-in-Flush-clause-crowds g c = rw (c.in-Flush.is) (on-ok-weaker c.flush.result _ _ (λ same. inl (ap (λ (n : Counts). n.evicted) same, ap (λ (n : Counts). n.skipped) same)) c.flush.ensures.same)
 
 pub returns-in-OpenRead-clause-crowds : goal.returns-in-OpenRead-clause-crowds
 returns-in-OpenRead-clause-crowds g c = rw (c.in-OpenRead.is) c.open_read.ensures.crowds
