@@ -1,5 +1,5 @@
 -- What is lost where a partition is looked up, let go or entered.
-use Rattle.std.proofs.Common.{◌≡◌, ◌⊎◌, ℕ, [], List, Option, Some, None, length, inl, inr, refl, sym, ap, ◌∙◌, subst, slice_index_or}
+use Rattle.std.proofs.Common.{◌≡◌, ◌⊎◌, ℕ, [], List, Option, Some, None, length, inl, inr, refl, sym, ap, ◌∙◌, subst}
 use Rattle.std.specs.Prelude.{sum_by}
 use Rattle.lsa_pool.specs.Room.{live_sum}
 use Rattle.rc_core.specs.Version.{IsVersion}

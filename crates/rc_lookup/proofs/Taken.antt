@@ -6,7 +6,6 @@ use Rattle.rc_position.specs.declared.positions.Pos.{Pos}
 use Rattle.rc_memory.specs.Memory.{Memory}
 use Rattle.rc_memory.specs.Recency.{IsRecency}
 use Rattle.rc_stream.specs.Snapshot.{NoneLost, There, Unlost}
-use Rattle.rc_cached.specs.Fillers.{IsStreamFill}
 use Rattle.rc_cached.specs.Filling.{MayFill}
 use Rattle.rc_cached.specs.Fills.{IsCacheFill}
 use Rattle.rc_cached.specs.Stands.{StandsForWrites}

@@ -1,5 +1,5 @@
 -- What an opening loses it loses in a crowded region.
-use Rattle.std.proofs.Common.{◌≡◌, ◌⊎◌, ◌+◌, ◌-◌, ◌*◌, ◌/◌, ◌<◌, ◌≤◌, ap, ℕ, zero, suc, Option, Some, None, length, inl, inr, refl, sym, subst, arith}
+use Rattle.std.proofs.Common.{◌≡◌, ◌⊎◌, ◌+◌, ◌-◌, ◌*◌, ◌/◌, ◌<◌, ◌≤◌, ap, ℕ, zero, suc, Option, Some, None, length, inl, inr, sym, subst, arith}
 use Rattle.lsa_pool.specs.Room.{spare_of}
 use Rattle.lsa_region.specs.Region.{live_bytes}
 use Rattle.rc_memory.specs.declared.counts.Counts.{Counts}

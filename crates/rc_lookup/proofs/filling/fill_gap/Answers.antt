@@ -1,5 +1,5 @@
 -- One fill, if the stretch is not empty.
-use Rattle.std.proofs.Common.{ap, sym, ◌∙◌, arith}
+use Rattle.std.proofs.Common.{ap, sym, ◌∙◌}
 use Rattle.std.specs.Ordering.{is_lt}
 use Rattle.rc_row_cache.specs.Crowds.{loses-nothing}
 use Rattle.rc_lookup.specs.calls.Words.{of_its_filler}
