@@ -8,3 +8,4 @@ mod Losing
 mod Bytes
 mod One
 mod Rounds
+mod Dropped

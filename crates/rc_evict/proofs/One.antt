@@ -1,8 +1,7 @@
 -- One eviction: the front is lost, it is counted, and the chain is swept.
-use Rattle.std.proofs.Common.{◌≡◌, ℕ, ◌+◌, ◌*◌, ◌/◌, ◌≤◌, List, [], ◌∷◌, Option, Some, None, length, inl, inr, refl, sym, ap, ◌∙◌, subst, arith}
+use Rattle.std.proofs.Common.{◌≡◌, ℕ, ◌+◌, ◌*◌, ◌/◌, ◌≤◌, Option, Some, None, length, inl, inr, refl, sym, ap, ◌∙◌, subst, arith}
 use Rattle.std.specs.Prelude.{Contains, IfSome, IsSome, sum_by}
-use Rattle.std.specs.Option.{option_map, option_map_or}
-use Rattle.std.proofs.lemmas.List.Sums.{sum_by-cons}
+use Rattle.std.specs.Option.{option_map}
 use Rattle.lsa_region.specs.Region.{live_bytes}
 use Rattle.lsa_store.specs.declared.place.Ref.{Ref}
 use Rattle.rc_core.specs.Version.{IsVersion}
@@ -17,13 +16,16 @@ use Rattle.rc_memory.specs.Kept.{present}
 use Rattle.rc_memory.specs.laws.Rules.{length-on}
 use Rattle.rc_chain.specs.Lives.{IsChainDropped, IsIdle}
 use Rattle.rc_evict.specs.declared.evicting.Evicted.{Evicted}
-use Rattle.rc_evict.specs.Evictions.{AreEvicted, IsFrontLost, IsOneEvicted, TakenOut, eviction_counted, evicted_at, version_count, versions_together}
+use Rattle.rc_core.specs.Steps.{on_version}
+use Rattle.rc_evict.specs.Crowding.{version_count, versions_of}
+use Rattle.rc_evict.specs.laws.Crowds.{sum-gone, sum-on}
+use Rattle.rc_evict.specs.Evictions.{IsFrontLost, IsOneEvicted, TakenOut, eviction_counted, evicted_at}
 use Rattle.rc_chain.specs.Held.{IsHeldAt}
 use Rattle.rc_evict.proofs.Bytes.{chain-less, chain-lost, idle-bytes, put-gone, put-less, put-lost, version-lost}
 use Rattle.rc_evict.proofs.Chains.{use-changed}
 use Rattle.rc_evict.proofs.Idle.{idle-again, idle-alike, idle-decided}
 use Rattle.rc_evict.proofs.Places.{holds-of}
-use Rattle.rc_evict.proofs.Together.{dropped-with, kept-with, lost-this, some-of}
+use Rattle.rc_evict.proofs.Together.{lost-this, some-of}
 
 -- one more eviction counted, and nothing else
 pub counted-once : (m : Memory) → raised_by 0 m.counts.skipped ≡ m.counts.skipped → raised_by 0 m.counts.shrunk ≡ m.counts.shrunk → counts_raised 1 0 0 m ≡ eviction_counted m
@@ -40,20 +42,23 @@ counted-once m a b = λ i. record {
 fit_of : (S : ℕ) (o : Option KeptChain) (k : KeptChain) → IfSome o (λ q. FitTogether S q.chain.versions) → o ≡ Some k → FitTogether S k.chain.versions
 fit_of S o k h e = subst (λ (x : Option KeptChain). IfSome x (λ q. FitTogether S q.chain.versions)) e h
 
-kept_sum : (old lost now live_old live_new eighth more : ℕ) → live_old ≡ old → live_new ≡ now → now ≡ lost → old ≤ lost + eighth → live_old ≤ live_new + eighth + 152 * more
-kept_sum old lost now live_old live_new eighth more a b c d = omega (arith, a, b, c, d)
+kept_sum : (old lost now live_old live_new eighth before after : ℕ) → live_old ≡ old → live_new ≡ now → now ≡ lost → old ≤ lost + eighth → after ≡ before → live_old + 152 * after ≤ live_new + eighth + 152 * before
+kept_sum old lost now live_old live_new eighth before after a b c d e = omega (arith, a, b, c, d, e)
 
-gone_sum : (old lost now chain live_old live_new eighth count more : ℕ) → live_old ≡ old → live_new ≡ now → lost ≡ now + chain → chain ≡ 152 * count → more ≡ count → old ≤ lost + eighth → live_old ≤ live_new + eighth + 152 * more
-gone_sum old lost now chain live_old live_new eighth count more a b c d e f = omega (arith, a, b, c, d, e, f)
+gone_sum : (old lost now chain live_old live_new eighth count before after : ℕ) → live_old ≡ old → live_new ≡ now → lost ≡ now + chain → chain ≡ 152 * count → before ≡ after + count → old ≤ lost + eighth → live_old + 152 * after ≤ live_new + eighth + 152 * before
+gone_sum old lost now chain live_old live_new eighth count before after a b c d e f = omega (arith, a, b, c, d, e, f)
+
+fewer_after : (before after count : ℕ) → before ≡ after + count → after ≤ before
+fewer_after before after count e = omega (arith, e)
+
+as_many : (before after : ℕ) → after ≡ before → after ≤ before
+as_many before after e = omega (arith, e)
 
 less_sum : (before lost now more live_old live_new : ℕ) → live_old ≡ before → live_new ≡ now → lost ≡ now + more → lost ≤ before → live_new ≤ live_old
 less_sum before lost now more live_old live_new a b c d = omega (arith, a, b, c, d)
 
 same_sum : (before lost now live_old live_new : ℕ) → live_old ≡ before → live_new ≡ now → now ≡ lost → lost ≤ before → live_new ≤ live_old
 same_sum before lost now live_old live_new a b c d = omega (arith, a, b, c, d)
-
-one_only : (a b : ℕ) → a ≡ b → a + 0 ≡ b
-one_only a b e = omega (arith, e)
 
 module _ (m l q n : Memory) (s : Evicted) (w : Member) (id : ℕ) (t : IsFrontLost s w m l) (chain : id ≡ w.chain) (count : q ≡ eviction_counted l) where
   front : (k : KeptChain) × (chain_at m w.chain ≡ Some k) × MayBeListed k.chain w.version w.position
@@ -107,6 +112,31 @@ module _ (m l q n : Memory) (s : Evicted) (w : Member) (id : ℕ) (t : IsFrontLo
           | inr busy ↦ subst (λ (x : Memory). m.counts.evicted ≤ x.counts.evicted) (sym (stays_now k.0 k.1 busy ∙ sym count)) more
         ]
 
+    -- no version comes to be, and those of the chain go with it
+    versions_lost : versions_of l ≡ versions_of m
+    versions_lost = ap (λ cs. sum_by version_count (present cs)) t.changed.chains ∙ sum-on version_count (on_shown (on_version_of w.version (evicted_at w.position))) (λ k. length-on w.version (evicted_at w.position) k.chain.versions) w.chain m.chains
+
+    versions_gone : (k : KeptChain) → chain_at m w.chain ≡ Some k → IsIdle (eviction_counted l) w.chain k.chain → versions_of m ≡ versions_of n + length (on_version w.version (evicted_at w.position) k.chain.versions)
+    versions_gone k there i =
+        sym versions_lost ∙ sum-gone version_count w.chain (on_shown (on_version_of w.version (evicted_at w.position)) k) l.chains (lost_at k there)
+        ∙ ap (λ cs. sum_by version_count (present cs) + length (on_version w.version (evicted_at w.position) k.chain.versions)) (sym (gone_now k there i).chains)
+
+    versions_kept : (k : KeptChain) → chain_at m w.chain ≡ Some k → (IsIdle (eviction_counted l) w.chain k.chain → ⊥) → versions_of n ≡ versions_of m
+    versions_kept k there busy = ap versions_of (stays_now k there busy) ∙ versions_lost
+
+    pub one-versions : versions_of n ≤ versions_of m
+    one-versions = let k = front in elim (idle-decided (eviction_counted l) w.chain k.0.chain) [
+      | inl i ↦ fewer_after (versions_of m) (versions_of n) (length (on_version w.version (evicted_at w.position) k.0.chain.versions)) (versions_gone k.0 k.1 i)
+      | inr busy ↦ as_many (versions_of m) (versions_of n) (versions_kept k.0 k.1 busy)
+    ]
+
+    -- what chains became smaller by is counted elsewhere
+    pub one-shrunk : n.counts.shrunk ≡ m.counts.shrunk
+    one-shrunk = let k = front in elim (idle-decided (eviction_counted l) w.chain k.0.chain) [
+      | inl i ↦ ap (λ (c : Counts). c.shrunk) (gone_now k.0 k.1 i).counts ∙ ap (λ (c : Counts). c.shrunk) t.changed.counts
+      | inr busy ↦ ap (λ (x : Memory). x.counts.shrunk) (stays_now k.0 k.1 busy) ∙ ap (λ (c : Counts). c.shrunk) t.changed.counts
+    ]
+
     -- and no more is live
     fewer : (k : KeptChain) → chain_at m w.chain ≡ Some k → sum_by chain_bytes (present l.chains) ≤ sum_by chain_bytes (present m.chains)
     fewer k there =
@@ -132,27 +162,17 @@ module _ (m l q n : Memory) (s : Evicted) (w : Member) (id : ℕ) (t : IsFrontLo
           (version-lost S k.chain.versions (fit_of S (chain_at m w.chain) k (fit w.chain) there) may.version (subst (λ vs. Contains vs may.version) (sym may.number.split) (elem-here may.number.older may.number.newer may.version))
           (versions w.chain w.version k may.version there may.number) m.region r w.position (holds-of m r w held k may.version there may.number))))
 
-      pub one-live : (place : Member) × (gone : List ℕ) × AreEvicted (place ∷ []) gone m n × (live_bytes m.region ≤ live_bytes n.region + S / 8 + 152 * versions_together m gone)
+      pub one-live : live_bytes m.region + 152 * versions_of n ≤ live_bytes n.region + S / 8 + 152 * versions_of m
       one-live = let k = front in let drop = less k.0 k.2 k.1 in elim (idle-decided (eviction_counted l) w.chain k.0.chain) [
         | inl i ↦
             let d = gone_now k.0 k.1 i in
             let chains = ap (λ cs. sum_by chain_bytes (present cs)) d.chains in
             let taken = put-gone l.chains w.chain (on_shown (on_version_of w.version (evicted_at w.position)) k.0) (lost_at k.0 k.1) in
             let bare = idle-bytes q id (on_shown (on_version_of w.version (evicted_at w.position)) k.0) (counted_at k.0 k.1) rule mid_versions (idle_now k.0 i) in
-            let number = ap (λ o. option_map_or (λ (x : KeptChain). length x.chain.versions) o 0) k.1 in (
-              w,
-              w.chain ∷ [],
-              dropped-with w m l n k.0 (TakenOut s w) t.front k.1 t.changed i d,
-              gone_sum (sum_by chain_bytes (present m.chains)) (sum_by chain_bytes (present l.chains)) (sum_by chain_bytes (present (put w.chain None l.chains))) (chain_bytes (on_shown (on_version_of w.version (evicted_at w.position)) k.0))
-                  (live_bytes m.region) (live_bytes n.region) (S / 8) (length k.0.chain.versions) (versions_together m (w.chain ∷ [])) old_live (new_live ∙ chains) taken
-                  (bare ∙ ap (λ c. 152 * c) (length-on w.version (evicted_at w.position) k.0.chain.versions)) (sum_by-cons (version_count m) w.chain [] ∙ one_only (version_count m w.chain) (length k.0.chain.versions) number) drop,
-            )
+            gone_sum (sum_by chain_bytes (present m.chains)) (sum_by chain_bytes (present l.chains)) (sum_by chain_bytes (present (put w.chain None l.chains))) (chain_bytes (on_shown (on_version_of w.version (evicted_at w.position)) k.0))
+            (live_bytes m.region) (live_bytes n.region) (S / 8) (length (on_version w.version (evicted_at w.position) k.0.chain.versions)) (versions_of m) (versions_of n) old_live (new_live ∙ chains) taken bare (versions_gone k.0 k.1 i) drop
         | inr busy ↦
-            let same = stays_now k.0 k.1 busy in (
-              w,
-              [],
-              kept-with w m l n k.0 (TakenOut s w) t.front k.1 t.changed busy same,
-              kept_sum (sum_by chain_bytes (present m.chains)) (sum_by chain_bytes (present l.chains)) (sum_by chain_bytes (present n.chains)) (live_bytes m.region) (live_bytes n.region) (S / 8) (versions_together m []) old_live new_live
-                  (ap (λ (x : Memory). sum_by chain_bytes (present x.chains)) same) drop,
-            )
+            let same = stays_now k.0 k.1 busy in
+            kept_sum (sum_by chain_bytes (present m.chains)) (sum_by chain_bytes (present l.chains)) (sum_by chain_bytes (present n.chains)) (live_bytes m.region) (live_bytes n.region) (S / 8) (versions_of m) (versions_of n) old_live new_live
+            (ap (λ (x : Memory). sum_by chain_bytes (present x.chains)) same) drop (versions_kept k.0 k.1 busy)
       ]

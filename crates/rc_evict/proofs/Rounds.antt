@@ -1,8 +1,6 @@
 -- Room that is made by moves and evictions, one after another.
 use Rattle.std.proofs.Common.{◌≡◌, ℕ, ◌+◌, ◌-◌, ◌*◌, ◌/◌, ◌<◌, ◌≤◌, le_refl, List, [], ◌∷◌, ◌++◌, length, inl, inr, refl, sym, ap, ◌∙◌, subst, slice_index_or, arith}
 use Rattle.std.specs.Prelude.{Contains, IfNone, IfSome, IsSomeAnd, Option, Some, None, is_some, sum_by, true}
-use Rattle.std.specs.Option.{option_map, option_map_or}
-use Rattle.std.proofs.lemmas.List.Sums.{sum_by-append, sum_by-cons}
 use Rattle.lsa_pool.specs.Room.{spare_of}
 use Rattle.lsa_region.specs.Region.{Renamed, View, live_bytes}
 use Rattle.lsa_store.specs.declared.place.Ref.{Ref}
@@ -12,10 +10,11 @@ use Rattle.rc_memory.specs.Recency.{MayBeListed}
 use Rattle.rc_memory.specs.Changes.{member}
 use Rattle.rc_chain.specs.Lives.{IsIdle}
 use Rattle.rc_evict.specs.declared.evicting.Evicted.{Evicted}
-use Rattle.rc_evict.specs.Evictions.{AreEvicted, IsCrowded, IsOneEvicted, IsRoomMade, evicted_of, version_count, versions_together}
-use Rattle.rc_partition.specs.laws.Lists.{elem-first, elem-later}
-use Rattle.rc_evict.proofs.Chains.{use-kept}
-use Rattle.rc_evict.proofs.Together.{both-evicted, never-both, none-evicted, some-of}
+use Rattle.rc_evict.specs.Crowding.{IsCrowded, IsNearlyFull, LosesWhereCrowded, version_count, versions_of}
+use Rattle.rc_evict.specs.laws.Crowds.{crowded-last, loses-after, loses-nothing, loses-same}
+use Rattle.rc_evict.specs.Evictions.{AreEvicted, IsOneEvicted, IsRoomMade}
+use Rattle.rc_memory.specs.Kept.{present}
+use Rattle.rc_evict.proofs.Together.{both-evicted, none-evicted, some-of}
 
 -- room as it was made since a moment, and that nothing changed where so much was spare
 pub record IsRound (S need : ℕ) (old now : Memory) : Type 0 where
@@ -32,11 +31,13 @@ room-start S need m = record {
     gone = [];
     evicted = none-evicted m m (same-memory m);
     crowded = inl refl;
+    loses = loses-nothing S m;
     budget = refl;
     live = le_refl (live_bytes m.region);
     moved = le_refl m.region.moved;
     counted = le_refl m.counts.evicted;
     skipped = refl;
+    shrunk = refl;
   };
   idle = λ enough. refl;
 }
@@ -59,11 +60,21 @@ evicted_moved went gone old mid new a u = record {
     idle_moved id None h = h
     idle_moved id (Some k) i = record { cached = i.cached; settled = i.settled; unpinned = i.unpinned; unlisted = λ j at listed. i.unlisted j at (subst (λ l. Contains l (member id j at)) u.recency listed) }
 
+moved_sum : (least less a b u v w h i j : ℕ) → least + 152 * u + h < a + less + 152 * (w + 0) + i → b ≡ a → v ≡ u → j ≡ i → least + 152 * v + h < b + less + 152 * (w + 0) + j
+moved_sum least less a b u v w h i j c p q r = omega (arith, c, p, q, r)
+
 module _ (S need : ℕ) (old now mid : Memory) (r : IsRound S need old now) (u : IsUntouched now mid) (names : List (Ref × Ref)) (renamed : Renamed now.region mid.region names) (up : now.region.moved ≤ mid.region.moved) where
-  crowded_moved : IsCrowded S r.room.gone old now → IsCrowded S r.room.gone old mid
-  crowded_moved c = let live = renamed.live in let budget = renamed.budget in
-      subst (λ n. 3 * S / 4 * (n - 2) < live_bytes mid.region + S / 8 + 152 * versions_together old r.room.gone) (sym budget)
-      (subst (λ n. 3 * S / 4 * (length now.region.usages - 2) < n + S / 8 + 152 * versions_together old r.room.gone) (sym live) c)
+  moved_loses : LosesWhereCrowded S 0 now mid
+  moved_loses = loses-same S now mid renamed.budget renamed.live (ap (λ cs. sum_by version_count (present cs)) u.chains) u.counts
+
+  -- objects moved after the region was crowded
+  crowded_moved : IsCrowded S (S / 8) 0 old now → IsCrowded S (S / 8) 0 old mid
+  crowded_moved c =
+      let live = renamed.live in
+      let versions = ap (λ cs. sum_by version_count (present cs)) u.chains in
+      let shrunk = ap (λ (c : Counts). c.shrunk) u.counts in
+      subst (λ n. 3 * S / 4 * (n - 2) + 152 * versions_of mid + old.counts.shrunk < live_bytes mid.region + S / 8 + 152 * (versions_of old + 0) + mid.counts.shrunk) (sym renamed.budget)
+      (moved_sum (3 * S / 4 * (length now.region.usages - 2)) (S / 8) (live_bytes now.region) (live_bytes mid.region) (versions_of now) (versions_of mid) (versions_of old) old.counts.shrunk now.counts.shrunk mid.counts.shrunk c live versions shrunk)
 
   made_moved : IsRoomMade S old mid
   made_moved = let h = r.room in record {
@@ -71,11 +82,13 @@ module _ (S need : ℕ) (old now mid : Memory) (r : IsRound S need old now) (u :
     gone = h.gone;
     evicted = evicted_moved h.went h.gone old now mid h.evicted u;
     crowded = elim h.crowded [ inl none ↦ inl none | inr c ↦ inr (crowded_moved c) ];
+    loses = loses-after S 0 old now mid h.loses moved_loses;
     budget = renamed.budget ∙ h.budget;
     live = let same = renamed.live in let less = h.live in omega (arith, same, less);
     moved = let more = h.moved in omega (arith, more, up);
     counted = subst (λ (c : Counts). old.counts.evicted ≤ c.evicted) (sym u.counts) h.counted;
     skipped = ap (λ (c : Counts). c.skipped) u.counts ∙ h.skipped;
+    shrunk = ap (λ (c : Counts). c.shrunk) u.counts ∙ h.shrunk;
   }
 
   pub room-moved : (need ≤ spare_of S now.region.usages → mid ≡ now) → IsRound S need old mid
@@ -89,44 +102,39 @@ module _ (S need : ℕ) (old now mid : Memory) (r : IsRound S need old now) (u :
   room-short idle few enough =
       let same : mid ≡ old = (room-moved idle).idle enough in let spare = ap (λ (m : Memory). spare_of S m.region.usages) same in omega (arith, few, enough, spare)
 
-crowded_more : (least live eighth before other all : ℕ) → least < live + eighth + 152 * other → all ≡ before + other → least < live + eighth + 152 * all
-crowded_more least live eighth before other all h e = omega (arith, h, e)
-
-sum_alike : (f g : ℕ → ℕ) (xs : List ℕ) → ((x : ℕ) → Contains xs x → f x ≡ g x) → sum_by f xs ≡ sum_by g xs
-sum_alike f g [] same = refl
-sum_alike f g (x ∷ xs) same = sum_by-cons f x xs ∙ (λ i. same x (elem-first x xs) i + sum_alike f g xs (λ y on. same y (elem-later x y xs on)) i) ∙ sym (sum_by-cons g x xs)
-
 -- what one eviction leaves of the region and of the counts
 pub record IsLessThen (old new : Memory) : Type 0 where
   pub budget : length new.region.usages ≡ length old.region.usages
   pub live : live_bytes new.region ≤ live_bytes old.region
   pub moved : new.region.moved ≡ old.region.moved
   pub counted : old.counts.evicted ≤ new.counts.evicted
+  pub versions : versions_of new ≤ versions_of old
+  pub shrunk : new.counts.shrunk ≡ old.counts.shrunk
+
+fewer_still : (u v : ℕ) → v ≤ u → v ≤ u + 0
+fewer_still u v h = omega (arith, h)
+
+same_least : (h i : ℕ) → i ≡ h → h ≤ i
+same_least h i e = omega (arith, e)
 
 module _ (S need : ℕ) (old mid new : Memory) (r : IsRound S need old mid) (place : Member) (gone : List ℕ) (e : AreEvicted (place ∷ []) gone mid new) where
-  -- an eviction leaves a chain as many versions
-  count_map : (id : ℕ) (o : Option KeptChain) → option_map_or (λ (k : KeptChain). length k.chain.versions) (option_map (evicted_of id r.room.went) o) 0 ≡ option_map_or (λ (k : KeptChain). length k.chain.versions) o 0
-  count_map id None = refl
-  count_map id (Some k) = (use-kept id r.room.went k).count
+  one_loses : IsCrowded S (S / 8) 0 mid new → IsLessThen mid new → LosesWhereCrowded S 0 mid new
+  one_loses c less = record { segments = less.budget; versions = fewer_still (versions_of mid) (versions_of new) less.versions; shrunk = same_least mid.counts.shrunk new.counts.shrunk less.shrunk; cause = inr (inl c) }
 
-  count_same : (id : ℕ) → Contains gone id → version_count mid id ≡ version_count old id
-  count_same id on = ap (λ o. option_map_or (λ (k : KeptChain). length k.chain.versions) o 0) (r.room.evicted.chains id (λ first. never-both r.room.went (place ∷ []) r.room.gone gone old mid new r.room.evicted e id first on)) ∙ count_map id (chain_at old id)
-
-  all_versions : versions_together old (r.room.gone ++ gone) ≡ versions_together old r.room.gone + versions_together mid gone
-  all_versions = sum_by-append (version_count old) r.room.gone gone ∙ ap (λ n. versions_together old r.room.gone + n) (sym (sum_alike (version_count mid) (version_count old) gone count_same))
-
-  pub room-evicted : IsCrowded S gone mid new → IsLessThen mid new → (need ≤ spare_of S old.region.usages → ⊥) → IsRound S need old new
+  pub room-evicted : IsCrowded S (S / 8) 0 mid new → IsLessThen mid new → (need ≤ spare_of S old.region.usages → ⊥) → IsRound S need old new
   room-evicted c less short = let h = r.room in record {
     room = record {
       went = h.went ++ (place ∷ []);
       gone = h.gone ++ gone;
       evicted = both-evicted h.went (place ∷ []) h.gone gone old mid new h.evicted e;
-      crowded = inr (crowded_more (3 * S / 4 * (length new.region.usages - 2)) (live_bytes new.region) (S / 8) (versions_together old h.gone) (versions_together mid gone) (versions_together old (h.gone ++ gone)) c all_versions);
+      crowded = inr (crowded-last S 0 0 old mid new h.loses.versions h.loses.shrunk c);
+      loses = loses-after S 0 old mid new h.loses (one_loses c less);
       budget = less.budget ∙ h.budget;
       live = let a = h.live in let b = less.live in omega (arith, a, b);
       moved = let a = h.moved in let b = less.moved in omega (arith, a, b);
       counted = let a = h.counted in let b = less.counted in omega (arith, a, b);
       skipped = ap (λ (c : Counts). c.skipped) e.counts ∙ h.skipped;
+      shrunk = less.shrunk ∙ h.shrunk;
     };
     idle = λ enough. absurd (short enough);
   }
@@ -163,12 +171,13 @@ pub eviction-budget : (o : Option Evicted) (old new : Memory) → IfSome o (λ s
 eviction-budget None old new some none = ap (λ (m : Memory). length m.region.usages) none.1
 eviction-budget (Some sort) old new some none = one_budget sort old new some
 
-crowded_sum : (least old new eighth more : ℕ) → least < old → old ≤ new + eighth + 152 * more → least < new + eighth + 152 * more
-crowded_sum least old new eighth more a b = omega (arith, a, b)
+crowded_sum : (least old new eighth u v h i : ℕ) → least < old → old + 152 * v ≤ new + eighth + 152 * u → i ≡ h → least + 152 * v + h < new + eighth + 152 * (u + 0) + i
+crowded_sum least old new eighth u v h i a b c = omega (arith, a, b, c)
 
-pub eviction-crowds : (S : ℕ) (gone : List ℕ) (old new : Memory) (region : View) → region ≡ old.region → 3 * S / 4 * (length region.usages - 2) < live_bytes region → length new.region.usages ≡ length old.region.usages
-    → live_bytes old.region ≤ live_bytes new.region + S / 8 + 152 * versions_together old gone → IsCrowded S gone old new
-eviction-crowds S gone old new region same full budget less =
-    let before = subst (λ (v : View). 3 * S / 4 * (length v.usages - 2) < live_bytes v) same full in
-    crowded_sum (3 * S / 4 * (length new.region.usages - 2)) (live_bytes old.region) (live_bytes new.region) (S / 8) (versions_together old gone)
-    (subst (λ n. 3 * S / 4 * (n - 2) < live_bytes old.region) (sym budget) before) less
+pub eviction-nearly : (S : ℕ) (old : Memory) (region : View) → region ≡ old.region → 3 * S / 4 * (length region.usages - 2) < live_bytes region → IsNearlyFull S old
+eviction-nearly S old region same full = subst (λ (v : View). 3 * S / 4 * (length v.usages - 2) < live_bytes v) same full
+
+pub eviction-crowds : (S : ℕ) (old new : Memory) → IsNearlyFull S old → length new.region.usages ≡ length old.region.usages → live_bytes old.region + 152 * versions_of new ≤ live_bytes new.region + S / 8 + 152 * versions_of old → new.counts.shrunk ≡ old.counts.shrunk → IsCrowded S (S / 8) 0 old new
+eviction-crowds S old new full budget less shrunk =
+    crowded_sum (3 * S / 4 * (length new.region.usages - 2)) (live_bytes old.region) (live_bytes new.region) (S / 8) (versions_of old) (versions_of new) old.counts.shrunk new.counts.shrunk
+    (subst (λ n. 3 * S / 4 * (n - 2) < live_bytes old.region) (sym budget) full) less shrunk

@@ -3,11 +3,9 @@
 --     IsSort                     which sort of object stands at a place
 --     IsOneEvicted               the least recently used object went, and its chain with it where that is to be dropped then
 --     AreEvicted                 these objects went, and these chains with them; all other chains stay, each without what went of it
---     IsCrowded                  how full the region is then
 --     IsRoomMade                 what making room leaves: objects may have moved, and several may have gone
 --     IsPlaceUnlisted            the entry at an update's place is out of the recency list
-use Rattle.std.specs.Prelude.{◌≡◌, ◌≢◌, ◌⊎◌, ◌+◌, ◌-◌, ◌*◌, ◌/◌, ◌<◌, ◌≤◌, ℕ, suc, true, List, [], ◌∷◌, ◌++◌, Option, Some, None, cond, nat_eq, length, option_map, sum_by, AllPairs, Contains, IsSome, IsSomeAnd}
-use Rattle.std.specs.Option.{option_map_or}
+use Rattle.std.specs.Prelude.{◌≡◌, ◌≢◌, ◌⊎◌, ◌/◌, ◌≤◌, ℕ, suc, true, List, [], ◌∷◌, ◌++◌, Option, Some, None, cond, nat_eq, length, option_map, AllPairs, Contains, IsSome, IsSomeAnd}
 use Rattle.std.specs.Ordering.{eq_by_cmp}
 use Rattle.lsa_region.specs.Region.{live_bytes}
 use Rattle.rc_position.specs.declared.positions.Pos.{Pos}
@@ -21,6 +19,7 @@ use Rattle.rc_memory.specs.Changes.{AtAlone, IsVersionChanged, Nowhere, OfVersio
 use Rattle.rc_memory.specs.Memory.{KeptChain, Member, Memory, chain_at, on_shown, on_version_of, raised_by}
 use Rattle.rc_memory.specs.Recency.{MayBeListed}
 use Rattle.rc_chain.specs.Lives.{IsChainDropped, IsIdle}
+use Rattle.rc_evict.specs.Crowding.{IsCrowded, LosesWhereCrowded}
 use Rattle.rc_evict.specs.declared.evicting.Evicted.{Evicted}
 use Rattle.rc_evict.specs.declared.evicting.Evicted.TheVariants.{Dummy, EndDummy, Row, Static}
 
@@ -95,29 +94,19 @@ pub record AreEvicted (went : List Member) (gone : List ℕ) (old new : Memory) 
   pub dropped : new.dropped ≡ old.dropped ++ gone
   pub counts : new.counts ≡ evictions_counted went old.counts
 
--- how many versions the chain of a number has; 0 where there is none
-abbrev pub version_count : Memory → ℕ → ℕ
-version_count m id = option_map_or (λ (k : KeptChain). length k.chain.versions) (chain_at m id) 0
-
--- how many versions the chains of these numbers have together
-abbrev pub versions_together : Memory → List ℕ → ℕ
-versions_together m ids = sum_by (version_count m) ids
-
--- Three quarters of all but two segments are live, but for an object of an eighth of a segment, and for the heads and end dummies, 152 bytes each, of the versions of these chains, which went.
-abbrev pub IsCrowded : ℕ → List ℕ → Memory → Memory → Type 0
-IsCrowded S gone old new = 3 * S / 4 * (length new.region.usages - 2) < live_bytes new.region + S / 8 + 152 * versions_together old gone
-
--- Room was made: objects may have moved, and these objects went from the front of the recency list, and these chains with them; where any went the region is crowded. The region has as many segments, no more is live in it, and no count is less.
+-- Room was made: objects may have moved, and these objects went from the front of the recency list, and these chains with them; where any went the region is crowded, but for one object, and where none did as much is live. The region has as many segments, no more is live in it, and no count is less.
 pub record IsRoomMade (S : ℕ) (old new : Memory) : Type 0 where
   pub went : List Member
   pub gone : List ℕ
   pub evicted : AreEvicted went gone old new
-  pub crowded : (went ≡ []) ⊎ IsCrowded S gone old new
+  pub crowded : (went ≡ []) ⊎ IsCrowded S (S / 8) 0 old new
+  pub loses : LosesWhereCrowded S 0 old new
   pub budget : length new.region.usages ≡ length old.region.usages
   pub live : live_bytes new.region ≤ live_bytes old.region
   pub moved : old.region.moved ≤ new.region.moved
   pub counted : old.counts.evicted ≤ new.counts.evicted
   pub skipped : new.counts.skipped ≡ old.counts.skipped
+  pub shrunk : new.counts.shrunk ≡ old.counts.shrunk
 
 -- ---- under update
 

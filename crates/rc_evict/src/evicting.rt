@@ -7,7 +7,8 @@ ghost use Rattle.rc_rowcode.specs.Spelling.{pos_code};
 ghost use Rattle.rc_core.specs.Version.{end_position};
 ghost use Rattle.rc_memory.specs.Changes.{IsVersionChanged, Nowhere, OfVersion};
 ghost use Rattle.rc_memory.specs.Memory.{Member, IsMemberObject, raised_by};
-ghost use Rattle.rc_evict.specs.Evictions.{AreEvicted, IsFrontLost, IsOneEvicted, IsSort, evicted_at, eviction_counted, versions_together};
+ghost use Rattle.rc_evict.specs.Crowding.{versions_of};
+ghost use Rattle.rc_evict.specs.Evictions.{IsFrontLost, IsOneEvicted, IsSort, evicted_at, eviction_counted};
 
 use lsa_kinds::Kind;
 use lsa_region::Ref;
@@ -32,9 +33,11 @@ pub enum Evicted {
 pub fn evict_one<const S: usize>(chains: &mut Chains<S>) -> Option<Evicted>
     ensures some { IfSome result (λ sort. IsOneEvicted sort chains.old chains.new) }
     ensures none { IfNone result ((chains.old.recency ≡ []) × (chains.new ≡ chains.old)) }
-    ensures live { IfSome result (λ sort. (place : Member) × (gone : Sequence ℕ) × AreEvicted (place ∷ []) gone chains.old chains.new × (live_bytes chains.old.region ≤ live_bytes chains.new.region + S / 8 + 152 * versions_together chains.old gone)) }
+    ensures live { live_bytes chains.old.region + 152 * versions_of chains.new ≤ live_bytes chains.new.region + S / 8 + 152 * versions_of chains.old }
+    ensures versions { versions_of chains.new ≤ versions_of chains.old }
     ensures less { live_bytes chains.new.region ≤ live_bytes chains.old.region }
     ensures counted { chains.old.counts.evicted ≤ chains.new.counts.evicted }
+    ensures shrunk { chains.new.counts.shrunk ≡ chains.old.counts.shrunk }
     ensures spare { spare_of S chains.new.region.usages ≡ spare_of S chains.old.region.usages }
 {
     chains.known();
@@ -48,9 +51,11 @@ pub fn evict_one<const S: usize>(chains: &mut Chains<S>) -> Option<Evicted>
 fn evict<const S: usize>(chains: &mut Chains<S>, r: Ref) -> Evicted
     requires { (w : Member) × (rest : Sequence Member) × (chains.old.recency ≡ w ∷ rest) × IsMemberObject chains.old r w }
     ensures one { IsOneEvicted result chains.old chains.new }
-    ensures live { (place : Member) × (gone : Sequence ℕ) × AreEvicted (place ∷ []) gone chains.old chains.new × (live_bytes chains.old.region ≤ live_bytes chains.new.region + S / 8 + 152 * versions_together chains.old gone) }
+    ensures live { live_bytes chains.old.region + 152 * versions_of chains.new ≤ live_bytes chains.new.region + S / 8 + 152 * versions_of chains.old }
+    ensures versions { versions_of chains.new ≤ versions_of chains.old }
     ensures less { live_bytes chains.new.region ≤ live_bytes chains.old.region }
     ensures counted { chains.old.counts.evicted ≤ chains.new.counts.evicted }
+    ensures shrunk { chains.new.counts.shrunk ≡ chains.old.counts.shrunk }
     ensures spare { spare_of S chains.new.region.usages ≡ spare_of S chains.old.region.usages }
 {
     chains.known();

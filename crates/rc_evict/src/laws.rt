@@ -12,6 +12,10 @@ ghost use Rattle.rc_core.specs.Steps.{IsCarriedIn, IsChain};
 ghost use Rattle.rc_core.specs.Version.{IsVersion, On, Version, end_position};
 ghost use Rattle.rc_memory.specs.Memory.{IsUntouched, KeptChain, Member, Memory, chain_at};
 ghost use Rattle.rc_memory.specs.Recency.{IsRecency};
+ghost use Rattle.rc_memory.specs.Changes.{OfVersion};
+ghost use Rattle.rc_memory.specs.Kept.{IsLiveInChains};
+ghost use Rattle.rc_chain.specs.Lives.{IsChainDropped, IsIdle};
+ghost use Rattle.rc_evict.specs.Crowding.{LosesWhereCrowded};
 ghost use Rattle.rc_evict.specs.declared.evicting.Evicted.{Evicted};
 ghost use Rattle.rc_evict.specs.Evictions.{AreEvicted, IsOneEvicted, IsPlaceUnlisted, evicted_at, evicted_of};
 
@@ -68,4 +72,10 @@ pub fn evictions_spare_memtables_and_readers()
     ensures updating { (went : List Member) (gone : List ℕ) (old new : Memory) (id : ℕ) (k : KeptChain) → AreEvicted went gone old new → chain_at old id ≡ Some k → k.chain.updating ≢ false → chain_at new id ≡ Some (evicted_of id went k) }
     ensures absent { (went : List Member) (gone : List ℕ) (old new : Memory) (id : ℕ) → AreEvicted went gone old new → chain_at old id ≡ None → chain_at new id ≡ None }
     ensures none { (gone : List ℕ) (old new : Memory) (id : ℕ) → AreEvicted [] gone old new → chain_at new id ≡ chain_at old id }
+{}
+
+/// Where an idle chain is dropped nothing is lost: of each of its versions a head and an end dummy were left, of 152 bytes, where what is live is what all chains take.
+pub fn a_chain_that_is_dropped_had_its_ends_alone()
+    ensures { (S : ℕ) (old new : Memory) (id : ℕ) (list : List Member) (k : KeptChain) → chain_at old id ≡ Some k → IsRecency old → ((i j : ℕ) → OfVersion old i j (λ k v. IsVersion v)) → IsLiveInChains old → IsLiveInChains new →
+        IsIdle old id k.chain → IsChainDropped id list old new → LosesWhereCrowded S 0 old new }
 {}

@@ -20,7 +20,7 @@ raised-low more n h = le-min (omega arith) h
 raised-top : (more n : ℕ) → raised_by more n ≤ most_counted
 raised-top more n = min-le_right (n + more) most_counted
 
-raised-is : (more n : ℕ) → n + more ≤ most_counted → raised_by more n ≡ n + more
+pub raised-is : (more n : ℕ) → n + more ≤ most_counted → raised_by more n ≡ n + more
 raised-is more n h = min-eq_left h
 
 pub low_or : (a b : ℕ) → (a < b) ⊎ (b ≤ a)

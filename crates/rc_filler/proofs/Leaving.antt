@@ -20,6 +20,7 @@ use Rattle.rc_memory.specs.Recency.{IsRecency}
 use Rattle.rc_memory.specs.laws.Places.{same_some}
 use Rattle.rc_chain.specs.declared.chains.Snap.{Snap}
 use Rattle.rc_evict.specs.Evictions.{AreEvicted, IsPlaceUnlisted, evicted_of}
+use Rattle.rc_evict.specs.laws.Crowds.{loses-nothing}
 use Rattle.rc_populate.specs.Filling.{on_newest_of}
 use Rattle.rc_populate.specs.laws.Opening.{some-and}
 use Rattle.rc_cursor.specs.Snapshots.{kind_in, kind_seen, versions_in, versions_seen}
@@ -95,11 +96,13 @@ no-room S m = record {
     counts = refl;
   };
   crowded = inl refl;
+  loses = loses-nothing S m;
   budget = refl;
   live = omega arith;
   moved = omega arith;
   counted = omega arith;
   skipped = refl;
+  shrunk = refl;
 }
 
 module _ (others : (id : ℕ) (f : Version → Version) (old new : Memory) (i : ℕ) → new.chains ≡ on_chain id (on_shown (on_newest_of f)) old.chains → i ≢ id → chain_at new i ≡ chain_at old i)

@@ -12,3 +12,4 @@ mod Leaving
 mod Continued
 mod Beginning
 mod Still
+mod Crowding

@@ -1,5 +1,5 @@
 -- A static row that is known stays known where nothing is lost, and what may be filled still may be.
-use Rattle.std.proofs.Common.{◌≡◌, ◌<◌, ℕ, List, [], Option, None, Some, inl, inr, refl, sym, ap, ◌∙◌, subst, arith}
+use Rattle.std.proofs.Common.{◌≡◌, ◌<◌, ℕ, List, [], Option, Some, inl, inr, refl, sym, ◌∙◌, subst, arith}
 use Rattle.std.specs.Prelude.{IsTrue}
 use Rattle.rc_cell.specs.declared.rows.Row.{Row}
 use Rattle.rc_cell.specs.declared.writes.Tomb.{Tomb}
@@ -19,8 +19,8 @@ use Rattle.rc_stream.specs.Snapshot.{NoneLost, most_counted}
 use Rattle.rc_cursor.specs.Snapshots.{kind_in, versions_in}
 use Rattle.rc_filler.specs.declared.fillers.CacheFiller.{CacheFiller}
 use Rattle.rc_filler.specs.Stands.{HasCacheSnapshot}
-use Rattle.rc_filler.specs.Fillers.{FillerKnowsStatics, kind_filled, losses, versions_filled}
-use Rattle.rc_filler.specs.Fills.{IsFillDone, IsPortionFilled, IsSkipCounted, OfGap, OfRow, OfStatics, Portion, filled_with}
+use Rattle.rc_filler.specs.Fillers.{FillerKnowsStatics, losses, versions_filled}
+use Rattle.rc_filler.specs.Fills.{IsFillDone, IsPortionFilled, OfGap, OfRow, OfStatics, Portion, filled_with}
 use Rattle.rc_evict.specs.Evictions.{IsRoomMade}
 use Rattle.rc_filler.specs.calls.Coming.{AreCountsInRange}
 use Rattle.rc_filler.proofs.Continued.{newest-length}

@@ -1,11 +1,11 @@
 -- What a filler's calls do to a shard's memory.
 --     Portion           what is filled at once: a gap, a row or a static row
---     IsOutOfRoom       nothing can be evicted, and nothing moved out of a segment
+--     IsOutOfRoom       nothing can be evicted, and nothing moved out of a segment, in a region that is nearly full
 --     IsPortionFilled   a portion was filled into the newest version of a cache chain
 --     IsSkippedFor      why a portion is skipped
 --     IsCacheFill       what a call did
 --     IsUsedAsBefore    a chain has the same snapshots, and versions of the same phases
-use Rattle.std.specs.Prelude.{◌≡◌, ◌≢◌, ◌⊎◌, ℕ, List, [], Option, Contains, length, ⊤}
+use Rattle.std.specs.Prelude.{◌≡◌, ◌≢◌, ◌⊎◌, ℕ, List, [], Option, Contains, ⊤}
 use Rattle.lsa_move.specs.Room.{Tight}
 use Rattle.rc_cell.specs.declared.rows.Row.{Row}
 use Rattle.rc_cell.specs.declared.writes.Tomb.{Tomb}
@@ -21,6 +21,7 @@ use Rattle.rc_core.specs.Continuity.{fill_statics}
 use Rattle.rc_core.specs.Steps.{gap_filled, row_filled}
 use Rattle.rc_core.specs.Version.{Version}
 use Rattle.rc_memory.specs.Memory.{KeptChain, Member, Memory, counts_raised}
+use Rattle.rc_evict.specs.Crowding.{IsNearlyFull}
 use Rattle.rc_evict.specs.Evictions.{IsRoomMade}
 use Rattle.rc_populate.specs.Filling.{IsFilled, MayFill, given}
 use Rattle.rc_stream.specs.Snapshot.{SayThere, Throughout}
@@ -51,9 +52,9 @@ SayPortion writes (OfGap from to tomb) = Throughout from to (λ x. SayThere writ
 SayPortion writes (OfRow key row tomb) = SayThere writes (row_pos key) (row, tomb)
 SayPortion writes (OfStatics row) = source_at_static writes ≡ row
 
--- nothing is left that may be evicted, and no segment is sparse
+-- nothing is left that may be evicted, no segment is sparse, and the region is nearly full
 abbrev pub IsOutOfRoom : ℕ → Memory → Type 0
-IsOutOfRoom S m = (m.recency ≡ []) × Tight S m.region.usages
+IsOutOfRoom S m = (m.recency ≡ []) × Tight S m.region.usages × IsNearlyFull S m
 
 -- a gap ends at a key that cannot be spelled; in a row nothing is written
 abbrev pub IsUnfit : Portion → Type 0

@@ -3,6 +3,8 @@ pub mod Fillers
 pub mod Fills
 pub mod calls
 pub use Rattle.rc_evict.specs.Evictions
+pub use Rattle.rc_evict.specs.Crowding
+pub use Rattle.rc_evict.specs.laws.Crowds
 pub use Rattle.rc_evict.specs.Lives
 pub use Rattle.rc_evict.specs.Snap
 pub use Rattle.rc_memtable.specs.LetGo

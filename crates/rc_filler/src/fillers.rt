@@ -1,8 +1,16 @@
 //! What fills a snapshot of a cache chain.
-ghost use Rattle.std.specs.Prelude.{◌≡◌};
+ghost use Rattle.std.specs.Prelude.{◌≡◌, ◌≢◌, ◌*◌, ◌/◌, ◌≤◌, List as Sequence};
+ghost use Rattle.rc_cell.specs.Winner.{empty_row};
+ghost use Rattle.rc_position.specs.Position.{IsBefore};
+ghost use Rattle.rc_rowcode.specs.Spelling.{KeyFits};
+ghost use Rattle.rc_mutation.specs.declared.mutations.Mutation.{Mutation};
+ghost use Rattle.rc_evict.specs.Crowding.{LosesWhereCrowded};
+ghost use Rattle.rc_filler.specs.Stands.{HasCacheSnapshot, StandsForWrites};
+ghost use Rattle.rc_filler.specs.Fills.{OfGap, OfRow, SayPortion};
+ghost use Rattle.rc_filler.specs.calls.Coming.{CameOf};
 
 use crate::laws::what_came_of_a_fill;
-use crate::rooms::counts_in_range;
+use crate::rooms::{counts_in_range, shrunk_in_range};
 use crate::taking::{take_gap, take_row, take_statics};
 use rc_cell::{Row, Tomb};
 use rc_chain::{Chains, Snap};
@@ -45,6 +53,59 @@ impl CacheFiller {
             phase: self.phase,
         }
     }
+
+    /// Takes in a gap, as `gap` of `Filler` does. Where the keys of both ends are within the limits it is skipped for want of room alone.
+    pub fn take_gap<const S: usize>(
+        &self,
+        home: &mut Chains<S>,
+        from: &Pos,
+        to: &Pos,
+        tomb: Option<Tomb>,
+    ) -> Fill
+        requires snapshot { HasCacheSnapshot home.old self.now.chain self.now.pin }
+        requires roomy { 8952 ≤ 7 * S / 8 }
+        requires order { IsBefore from.now to.now }
+        ensures came { CameOf S result (OfGap from.now to.now tomb) self.now.chain self.now.pin home.old home.new }
+        ensures loses { KeyFits from.now.prefix → KeyFits to.now.prefix → LosesWhereCrowded S 0 home.old home.new }
+    {
+        what_came_of_a_fill();
+        counts_in_range(home);
+        shrunk_in_range(home);
+        let snap = self.snap();
+        let fill = take_gap(home, &snap, from, to, tomb);
+        let Snap {
+            chain: _,
+            pin: _,
+            phase: _,
+        } = snap;
+        fill
+    }
+
+    /// Takes in a row, as `row` of `Filler` does. Where something is written in it it is skipped for want of room alone.
+    pub fn take_row<const S: usize>(
+        &self,
+        home: &mut Chains<S>,
+        key: &Key,
+        row: &Row,
+        tomb: Option<Tomb>,
+    ) -> Fill
+        requires roomy { 8952 ≤ 7 * S / 8 }
+        requires source { (writes : Sequence Mutation) × StandsForWrites S home.old self.now.chain self.now.pin writes × SayPortion writes (OfRow key.now row.now tomb) }
+        ensures came { CameOf S result (OfRow key.now row.now tomb) self.now.chain self.now.pin home.old home.new }
+        ensures loses { row.now ≢ empty_row → LosesWhereCrowded S 0 home.old home.new }
+    {
+        what_came_of_a_fill();
+        counts_in_range(home);
+        shrunk_in_range(home);
+        let snap = self.snap();
+        let fill = take_row(home, &snap, key, row, tomb);
+        let Snap {
+            chain: _,
+            pin: _,
+            phase: _,
+        } = snap;
+        fill
+    }
 }
 
 impl<const S: usize> Filler<Chains<S>> for CacheFiller {
@@ -74,28 +135,14 @@ impl<const S: usize> Filler<Chains<S>> for CacheFiller {
         what_came_of_a_fill();
         counts_in_range(home);
         home.known();
-        let snap = self.snap();
-        let fill = take_gap(home, &snap, from, to, tomb);
-        let Snap {
-            chain: _,
-            pin: _,
-            phase: _,
-        } = snap;
-        fill
+        self.take_gap(home, from, to, tomb)
     }
 
     fn row(&mut self, home: &mut Chains<S>, key: &Key, row: &Row, tomb: Option<Tomb>) -> Fill {
         what_came_of_a_fill();
         counts_in_range(home);
         home.known();
-        let snap = self.snap();
-        let fill = take_row(home, &snap, key, row, tomb);
-        let Snap {
-            chain: _,
-            pin: _,
-            phase: _,
-        } = snap;
-        fill
+        self.take_row(home, key, row, tomb)
     }
 
     fn statics(&mut self, home: &mut Chains<S>, row: &Row) -> Fill {

@@ -23,11 +23,12 @@ ghost use Rattle.rc_evict.specs.Evictions.{IsPlaceUnlisted};
 ghost use Rattle.rc_populate.specs.Filling.{IsEntryOpened, MayFill, given};
 ghost use Rattle.rc_cursor.specs.Snapshots.{AreReadable, kind_seen, versions_seen};
 ghost use Rattle.rc_stream.specs.declared.fillers.Fill.{Fill};
-ghost use Rattle.rc_stream.specs.Snapshot.{Answers, NoneLost, SayThere, There, Unlost};
+ghost use Rattle.rc_stream.specs.Snapshot.{Answers, NoneLost, SayThere, There, Unlost, most_counted};
 ghost use Rattle.rc_filler.specs.declared.fillers.CacheFiller.{CacheFiller};
 ghost use Rattle.rc_filler.specs.Stands.{HasCacheSnapshot, HoldsRowsOf, StandsForWrites};
 ghost use Rattle.rc_filler.specs.Fillers.{FillerKnows, FillerKnowsStatics, kind_filled, losses, versions_filled};
-ghost use Rattle.rc_filler.specs.Fills.{IsCacheFill, IsFillDone, IsUsedAsBefore, Portion, SayPortion};
+ghost use Rattle.rc_filler.specs.Fills.{IsCacheFill, IsFillDone, IsUnfit, IsUsedAsBefore, Portion, SayPortion};
+ghost use Rattle.rc_evict.specs.Crowding.{LosesWhereCrowded};
 ghost use Rattle.rc_evict.specs.Evictions.{IsRoomMade};
 ghost use Rattle.rc_filler.specs.calls.Coming.{AreCountsInRange, CameOf, KnowsPortion};
 
@@ -66,8 +67,8 @@ pub fn a_snapshot_knows_the_writes_it_stands_for()
     a_snapshot_can_be_read();
 }
 
-/// What came of a fill, by its answer.
-pub(crate) fn what_came_of_a_fill()
+/// What came of a fill, by its answer. Where the portion can stand in a version, something was lost only where the region was crowded.
+pub fn what_came_of_a_fill()
     ensures answers { (S : ℕ) (f : CacheFiller) (portion : Portion) (fill : Fill) (m n : Memory) → AreCountsInRange m.counts → CameOf S fill portion f.chain f.pin m n → Answers fill (MayFill m f.chain f.pin) (losses m) (losses n) }
     ensures known { (S : ℕ) (f : CacheFiller) (portion : Portion) (fill : Fill) (m n : Memory) (writes : List Mutation) → AreCountsInRange m.counts → IsRecency m → CameOf S fill portion f.chain f.pin m n → StandsForWrites S m f.chain f.pin writes → SayPortion writes portion →
         Unlost (MayFill m f.chain f.pin) (losses m) (losses n) (KnowsPortion n f portion) }
@@ -78,6 +79,7 @@ pub(crate) fn what_came_of_a_fill()
     ensures may { (S id pin : ℕ) (portion : Portion) (fill : Fill) (m n : Memory) → CameOf S fill portion id pin m n → MayFill m id pin → MayFill n id pin }
     ensures there { (S id pin : ℕ) (portion : Portion) (fill : Fill) (m n : Memory) → CameOf S fill portion id pin m n → HasCacheSnapshot m id pin → HasCacheSnapshot n id pin }
     ensures done { (S id pin : ℕ) (portion : Portion) (fill : Fill) (m n : Memory) → CameOf S fill portion id pin m n → IsFillDone S id pin m n }
+    ensures loses { (S id pin : ℕ) (portion : Portion) (fill : Fill) (m n : Memory) → AreCountsInRange m.counts → m.counts.shrunk ≤ most_counted → CameOf S fill portion id pin m n → (IsUnfit portion → ⊥) → LosesWhereCrowded S 0 m n }
 {
     room_leaves_a_snapshot();
     a_snapshot_knows_the_writes_it_stands_for();

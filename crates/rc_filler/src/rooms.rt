@@ -57,3 +57,11 @@ pub(crate) fn counts_in_range<const S: usize>(chains: &Chains<S>)
     in_range(counts.evicted);
     in_range(counts.skipped);
 }
+
+/// So is by how many bytes chains became smaller.
+pub(crate) fn shrunk_in_range<const S: usize>(chains: &Chains<S>)
+    ensures { chains.now.counts.shrunk ≤ most_counted }
+{
+    let counts = chains.counts();
+    in_range(counts.shrunk);
+}

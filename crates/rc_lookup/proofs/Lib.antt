@@ -16,3 +16,6 @@ mod Leaving
 mod Recent
 mod Walked
 mod Reordered
+mod Limits
+mod Taken
+mod Losing

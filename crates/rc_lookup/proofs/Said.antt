@@ -157,7 +157,7 @@ written-statics : (row : Row) (b : Bool) (fs : List Frag) → AreWritten fs → 
 written-statics row true fs w = w
 written-statics row false fs w = w
 
-spelled : (m : Mutation) → fragments m ≡ ((frag.Start m.pt ∷ static_fragment m.statics) ++ rows_and_changes m) ++ (frag.End ∷ [])
+pub spelled : (m : Mutation) → fragments m ≡ ((frag.Start m.pt ∷ static_fragment m.statics) ++ rows_and_changes m) ++ (frag.End ∷ [])
 unfolding fragments
 spelled m = refl
 

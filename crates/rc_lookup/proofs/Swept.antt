@@ -101,10 +101,10 @@ pub record SweepLaws : Type 0 where
       ((IsIdle (without_snap s old) s.chain k.chain → ⊥) → new ≡ without_snap s old) → AreInUse old → AreInUse new
 
 module _ (s : Snap) (x new : Memory) (k : KeptChain) (there : chain_at x s.chain ≡ Some k) (cached : k.chain.kind ≡ Cache) where
-  abbrev back : Memory
+  abbrev pub back : Memory
   back = without_snap s x
 
-  abbrev left_chain : KeptChain
+  abbrev pub left_chain : KeptChain
   left_chain = without_snapshot s.pin k
 
   pub back-there : chain_at back s.chain ≡ Some left_chain

@@ -11,6 +11,9 @@ pub use Rattle.rc_row_cache.specs.Calls
 pub use Rattle.rc_row_cache.specs.declared.row_cache.RowCache
 pub use Rattle.rc_row_cache.specs.Leaving
 pub use Rattle.rc_row_cache.specs.Fillers
+pub use Rattle.rc_row_cache.specs.Crowding
+pub use Rattle.rc_row_cache.specs.Crowds
+pub use Rattle.rc_row_cache.specs.laws.Losing
 pub use Rattle.rc_row_cache.specs.Memtables
 pub use Rattle.rc_row_cache.specs.Readers
 pub use Rattle.rc_row_cache.specs.Unstored

@@ -1,23 +1,32 @@
 // What fragments say, filled into a snapshot.
-ghost use Rattle.std.specs.Prelude.{◌≡◌, ◌≢◌, ◌≤◌, ℕ, List, None, OnOk};
+ghost use Rattle.std.specs.Prelude.{◌≡◌, ◌≢◌, ◌*◌, ◌/◌, ◌<◌, ◌≤◌, ◌^◌, List, None, OnOk};
 ghost use Rattle.rc_cell.specs.Winner.{empty_row};
 ghost use Rattle.rc_mutation.specs.declared.mutations.Mutation.{Mutation};
-ghost use Rattle.rc_position.specs.declared.positions.Pos.{Pos as Position};
-ghost use Rattle.rc_position.specs.Position.{row_pos};
+ghost use Rattle.rc_position.specs.Position.{IsBefore, row_pos};
+ghost use Rattle.rc_rowcode.specs.Spelling.{KeyFits};
 ghost use Rattle.rc_mutation.specs.Fragments.{tomb_after};
 ghost use Rattle.rc_core.specs.Version.{end_position};
-ghost use Rattle.rc_stream.specs.Snapshot.{SayThere, Throughout, Unlost};
+ghost use Rattle.rc_cached.specs.Coming.{AreCountsInRange};
+ghost use Rattle.rc_cached.specs.Filling.{MayFill};
+ghost use Rattle.rc_cached.specs.Stands.{StandsForWrites};
+ghost use Rattle.rc_stream.specs.Snapshot.{SayThere, Throughout, Unlost, most_counted};
 ghost use Rattle.rc_cacheread.specs.Passing.{IsKnownOver};
 ghost use Rattle.rc_cacheread.specs.Reading.{behind_row};
-ghost use Rattle.rc_cacheread.specs.Sharing.{of_filler};
 ghost use Rattle.rc_snapshots.specs.Streams.{first_position};
-ghost use Rattle.rc_lookup.specs.calls.Filling.{AllWritten, IsFilledBy, IsWritten, SaysAll, SaysNone, SaysUpTo, past};
+ghost use Rattle.rc_row_cache.specs.Crowding.{LosesWhereCrowded};
+ghost use Rattle.rc_row_cache.specs.Fillers.{FillerKnows, IsFillerReady, losses};
+ghost use Rattle.rc_lookup.specs.calls.Filling.{AllFit, AllWritten, IsFilledBy, IsFit, IsWritten, SaysAll, SaysNone, SaysUpTo, past};
+ghost use Rattle.rc_lookup.specs.calls.Words.{of_its_filler};
 
 use crate::places::bare;
+use rc_cached::StreamFiller;
 use rc_cell::{Row, Tomb};
 use rc_mutation::Frag;
 use rc_position::{Key, Pos, Weight};
-use rc_stream::Filler;
+use rc_row_cache::Chains;
+use rc_row_cache::filler_laws::{
+    a_fill_keeps_the_static_row_known, a_fill_takes_no_segment, what_came_of_a_fill,
+};
 use std::alloc::{AllocError, Global};
 
 /// How far a snapshot was filled.
@@ -29,37 +38,105 @@ pub(crate) struct Reached {
     pub tomb: Option<Tomb>,
 }
 
+// A count of 64 bits.
+fn in_range(_count: u64)
+    ensures top { _count ≤ most_counted }
+    ensures below { _count < 2 ^ 64 }
+{}
+
+// What is counted is counted by numbers of 64 bits.
+fn counts_in_range<const S: usize>(home: &Chains<S>)
+    ensures range { AreCountsInRange home.now.counts }
+    ensures evicted { home.now.counts.evicted < 2 ^ 64 }
+    ensures skipped { home.now.counts.skipped < 2 ^ 64 }
+{
+    let counts = home.counts();
+    in_range(counts.evicted);
+    in_range(counts.skipped);
+}
+
+// Takes in that nothing stands from one position on and before another.
+fn take_gap<const S: usize>(
+    home: &mut Chains<S>,
+    filler: &StreamFiller,
+    from: &Pos,
+    to: &Pos,
+    tomb: Option<Tomb>,
+)
+    requires ready { IsFillerReady S filler.now.filler home.old }
+    requires order { IsBefore from.now to.now }
+    requires source { (writes : List Mutation) × StandsForWrites S home.old filler.now.filler.chain filler.now.filler.pin writes × SaysNone writes from.now to.now tomb }
+    ensures filled { IsFilledBy (of_its_filler S) filler.now home.old filler.now home.new }
+    ensures known { Unlost (MayFill home.old filler.now.filler.chain filler.now.filler.pin) (losses home.old) (losses home.new) (Throughout from.now to.now (λ x. FillerKnows home.new filler.now.filler x (empty_row, tomb))) }
+    ensures stands { (writes : List Mutation) → StandsForWrites S home.old filler.now.filler.chain filler.now.filler.pin writes → SaysNone writes from.now to.now tomb → StandsForWrites S home.new filler.now.filler.chain filler.now.filler.pin writes }
+    ensures loses { KeyFits from.now.prefix → KeyFits to.now.prefix → LosesWhereCrowded S 0 home.old home.new }
+{
+    what_came_of_a_fill();
+    a_fill_takes_no_segment();
+    a_fill_keeps_the_static_row_known();
+    counts_in_range(home);
+    home.known();
+    filler.filler.take_gap(home, from, to, tomb);
+}
+
+// Takes in a row.
+fn take_row<const S: usize>(
+    home: &mut Chains<S>,
+    filler: &StreamFiller,
+    key: &Key,
+    row: &Row,
+    tomb: Option<Tomb>,
+)
+    requires ready { IsFillerReady S filler.now.filler home.old }
+    requires source { (writes : List Mutation) × StandsForWrites S home.old filler.now.filler.chain filler.now.filler.pin writes × SayThere writes (row_pos key.now) (row.now, tomb) }
+    ensures filled { IsFilledBy (of_its_filler S) filler.now home.old filler.now home.new }
+    ensures known { Unlost (MayFill home.old filler.now.filler.chain filler.now.filler.pin) (losses home.old) (losses home.new) (FillerKnows home.new filler.now.filler (row_pos key.now) (row.now, tomb)) }
+    ensures stands { (writes : List Mutation) → StandsForWrites S home.old filler.now.filler.chain filler.now.filler.pin writes → SayThere writes (row_pos key.now) (row.now, tomb) → StandsForWrites S home.new filler.now.filler.chain filler.now.filler.pin writes }
+    ensures loses { row.now ≢ empty_row → LosesWhereCrowded S 0 home.old home.new }
+{
+    what_came_of_a_fill();
+    a_fill_takes_no_segment();
+    a_fill_keeps_the_static_row_known();
+    counts_in_range(home);
+    home.known();
+    filler.filler.take_row(home, key, row, tomb);
+}
+
 // Takes in that nothing stands from one position on and before another, if that is before it.
-fn fill_gap<H, P: Filler<H>>(home: &mut H, filler: &mut P, from: &Pos, to: &Pos, tomb: Option<Tomb>)
-    requires ready { P.ready filler.old home.old }
-    requires fits { (p : P) (x : Position) → P.fits p x }
-    requires lost { (p q : P) (h g : H) → P.fills p h q g → P.lost h ≤ P.lost g }
-    requires source { (writes : List Mutation) × P.stands filler.old home.old writes × SaysNone writes from.now to.now tomb }
-    ensures filled { IsFilledBy (of_filler P.ready P.fits P.may P.lost P.stands P.knows P.knows_statics P.fills) filler.old home.old filler.new home.new }
-    ensures known { Unlost (P.may filler.old home.old) (P.lost home.old) (P.lost home.new) (Throughout from.now to.now (λ x. P.knows filler.new home.new x (empty_row, tomb))) }
-    ensures stands { (writes : List Mutation) → P.stands filler.old home.old writes → SaysNone writes from.now to.now tomb → P.stands filler.new home.new writes }
+fn fill_gap<const S: usize>(
+    home: &mut Chains<S>,
+    filler: &StreamFiller,
+    from: &Pos,
+    to: &Pos,
+    tomb: Option<Tomb>,
+)
+    requires ready { IsFillerReady S filler.now.filler home.old }
+    requires source { (writes : List Mutation) × StandsForWrites S home.old filler.now.filler.chain filler.now.filler.pin writes × SaysNone writes from.now to.now tomb }
+    ensures filled { IsFilledBy (of_its_filler S) filler.now home.old filler.now home.new }
+    ensures known { Unlost (MayFill home.old filler.now.filler.chain filler.now.filler.pin) (losses home.old) (losses home.new) (Throughout from.now to.now (λ x. FillerKnows home.new filler.now.filler x (empty_row, tomb))) }
+    ensures stands { (writes : List Mutation) → StandsForWrites S home.old filler.now.filler.chain filler.now.filler.pin writes → SaysNone writes from.now to.now tomb → StandsForWrites S home.new filler.now.filler.chain filler.now.filler.pin writes }
+    ensures loses { KeyFits from.now.prefix → KeyFits to.now.prefix → LosesWhereCrowded S 0 home.old home.new }
 {
     if from.cmp(to).is_lt() {
-        filler.gap(home, from, to, tomb);
+        take_gap(home, filler, from, to, tomb);
     }
 }
 
 // Takes in a row, and that nothing stands before it.
-fn fill_row<H, P: Filler<H>>(
+fn fill_row<const S: usize>(
     alloc: Global,
-    home: &mut H,
-    filler: &mut P,
+    home: &mut Chains<S>,
+    filler: &StreamFiller,
     reached: &mut Reached,
     key: &Key,
     row: &Row,
 ) -> Result<(), AllocError>
-    requires ready { P.ready filler.old home.old }
-    requires fits { (p : P) (x : Position) → P.fits p x }
-    requires lost { (p q : P) (h g : H) → P.fills p h q g → P.lost h ≤ P.lost g }
-    requires source { (writes : List Mutation) × P.stands filler.old home.old writes × SaysNone writes reached.old.at (row_pos key.now) reached.old.tomb × SayThere writes (row_pos key.now) (row.now, reached.old.tomb) }
-    ensures filled { IsFilledBy (of_filler P.ready P.fits P.may P.lost P.stands P.knows P.knows_statics P.fills) filler.old home.old filler.new home.new }
-    ensures known { OnOk result (Unlost (P.may filler.old home.old) (P.lost home.old) (P.lost home.new) (row.now ≢ empty_row → IsKnownOver (P.knows filler.old home.old) first_position reached.old.at → IsKnownOver (P.knows filler.new home.new) first_position (behind_row key.now))) }
-    ensures stands { (writes : List Mutation) → P.stands filler.old home.old writes → SaysNone writes reached.old.at (row_pos key.now) reached.old.tomb × SayThere writes (row_pos key.now) (row.now, reached.old.tomb) → P.stands filler.new home.new writes }
+    requires ready { IsFillerReady S filler.now.filler home.old }
+    requires source { (writes : List Mutation) × StandsForWrites S home.old filler.now.filler.chain filler.now.filler.pin writes × SaysNone writes reached.old.at (row_pos key.now) reached.old.tomb × SayThere writes (row_pos key.now) (row.now, reached.old.tomb) }
+    ensures filled { IsFilledBy (of_its_filler S) filler.now home.old filler.now home.new }
+    ensures known { OnOk result (Unlost (MayFill home.old filler.now.filler.chain filler.now.filler.pin) (losses home.old) (losses home.new) (row.now ≢ empty_row → IsKnownOver (FillerKnows home.old filler.now.filler) first_position reached.old.at → IsKnownOver (FillerKnows home.new filler.now.filler) first_position (behind_row key.now))) }
+    ensures stands { (writes : List Mutation) → StandsForWrites S home.old filler.now.filler.chain filler.now.filler.pin writes → SaysNone writes reached.old.at (row_pos key.now) reached.old.tomb × SayThere writes (row_pos key.now) (row.now, reached.old.tomb) → StandsForWrites S home.new filler.now.filler.chain filler.now.filler.pin writes }
+    ensures loses { KeyFits reached.old.at.prefix → KeyFits key.now → row.now ≢ empty_row → LosesWhereCrowded S 0 home.old home.new }
     ensures at { OnOk result (reached.new.at ≡ behind_row key.now) }
     ensures tomb { reached.new.tomb ≡ reached.old.tomb }
 {
@@ -68,28 +145,27 @@ fn fill_row<H, P: Filler<H>>(
         weight: Weight::At,
     };
     fill_gap(home, filler, &reached.at, &at, reached.tomb);
-    filler.row(home, key, row, reached.tomb);
+    take_row(home, filler, key, row, reached.tomb);
     at.weight = Weight::After;
     reached.at = at;
     Ok(())
 }
 
 // Takes in that nothing stands before a change, and goes on from there.
-fn fill_change<H, P: Filler<H>>(
+fn fill_change<const S: usize>(
     alloc: Global,
-    home: &mut H,
-    filler: &mut P,
+    home: &mut Chains<S>,
+    filler: &StreamFiller,
     reached: &mut Reached,
     from: &Pos,
     tomb: Option<Tomb>,
 ) -> Result<(), AllocError>
-    requires ready { P.ready filler.old home.old }
-    requires fits { (p : P) (x : Position) → P.fits p x }
-    requires lost { (p q : P) (h g : H) → P.fills p h q g → P.lost h ≤ P.lost g }
-    requires source { (writes : List Mutation) × P.stands filler.old home.old writes × SaysNone writes reached.old.at from.now reached.old.tomb }
-    ensures filled { IsFilledBy (of_filler P.ready P.fits P.may P.lost P.stands P.knows P.knows_statics P.fills) filler.old home.old filler.new home.new }
-    ensures known { OnOk result (Unlost (P.may filler.old home.old) (P.lost home.old) (P.lost home.new) (IsKnownOver (P.knows filler.old home.old) first_position reached.old.at → IsKnownOver (P.knows filler.new home.new) first_position from.now)) }
-    ensures stands { (writes : List Mutation) → P.stands filler.old home.old writes → SaysNone writes reached.old.at from.now reached.old.tomb → P.stands filler.new home.new writes }
+    requires ready { IsFillerReady S filler.now.filler home.old }
+    requires source { (writes : List Mutation) × StandsForWrites S home.old filler.now.filler.chain filler.now.filler.pin writes × SaysNone writes reached.old.at from.now reached.old.tomb }
+    ensures filled { IsFilledBy (of_its_filler S) filler.now home.old filler.now home.new }
+    ensures known { OnOk result (Unlost (MayFill home.old filler.now.filler.chain filler.now.filler.pin) (losses home.old) (losses home.new) (IsKnownOver (FillerKnows home.old filler.now.filler) first_position reached.old.at → IsKnownOver (FillerKnows home.new filler.now.filler) first_position from.now)) }
+    ensures stands { (writes : List Mutation) → StandsForWrites S home.old filler.now.filler.chain filler.now.filler.pin writes → SaysNone writes reached.old.at from.now reached.old.tomb → StandsForWrites S home.new filler.now.filler.chain filler.now.filler.pin writes }
+    ensures loses { KeyFits reached.old.at.prefix → KeyFits from.now.prefix → LosesWhereCrowded S 0 home.old home.new }
     ensures at { OnOk result (reached.new.at ≡ from.now) }
     ensures tomb { OnOk result (reached.new.tomb ≡ tomb) }
 {
@@ -101,20 +177,19 @@ fn fill_change<H, P: Filler<H>>(
 }
 
 // Takes in what a fragment says, and that nothing stands before it.
-fn fill_one<H, P: Filler<H>>(
+fn fill_one<const S: usize>(
     alloc: Global,
-    home: &mut H,
-    filler: &mut P,
+    home: &mut Chains<S>,
+    filler: &StreamFiller,
     reached: &mut Reached,
     frag: &Frag,
 ) -> Result<(), AllocError>
-    requires ready { P.ready filler.old home.old }
-    requires fits { (p : P) (x : Position) → P.fits p x }
-    requires lost { (p q : P) (h g : H) → P.fills p h q g → P.lost h ≤ P.lost g }
-    requires source { (writes : List Mutation) × P.stands filler.old home.old writes × SaysUpTo writes reached.old.at reached.old.tomb frag.now }
-    ensures filled { IsFilledBy (of_filler P.ready P.fits P.may P.lost P.stands P.knows P.knows_statics P.fills) filler.old home.old filler.new home.new }
-    ensures known { OnOk result (Unlost (P.may filler.old home.old) (P.lost home.old) (P.lost home.new) (IsWritten frag.now → IsKnownOver (P.knows filler.old home.old) first_position reached.old.at → IsKnownOver (P.knows filler.new home.new) first_position (past reached.old.at frag.now))) }
-    ensures stands { (writes : List Mutation) → P.stands filler.old home.old writes → SaysUpTo writes reached.old.at reached.old.tomb frag.now → P.stands filler.new home.new writes }
+    requires ready { IsFillerReady S filler.now.filler home.old }
+    requires source { (writes : List Mutation) × StandsForWrites S home.old filler.now.filler.chain filler.now.filler.pin writes × SaysUpTo writes reached.old.at reached.old.tomb frag.now }
+    ensures filled { IsFilledBy (of_its_filler S) filler.now home.old filler.now home.new }
+    ensures known { OnOk result (Unlost (MayFill home.old filler.now.filler.chain filler.now.filler.pin) (losses home.old) (losses home.new) (IsWritten frag.now → IsKnownOver (FillerKnows home.old filler.now.filler) first_position reached.old.at → IsKnownOver (FillerKnows home.new filler.now.filler) first_position (past reached.old.at frag.now))) }
+    ensures stands { (writes : List Mutation) → StandsForWrites S home.old filler.now.filler.chain filler.now.filler.pin writes → SaysUpTo writes reached.old.at reached.old.tomb frag.now → StandsForWrites S home.new filler.now.filler.chain filler.now.filler.pin writes }
+    ensures loses { KeyFits reached.old.at.prefix → IsFit frag.now → IsWritten frag.now → LosesWhereCrowded S 0 home.old home.new }
     ensures at { OnOk result (reached.new.at ≡ past reached.old.at frag.now) }
     ensures tomb { OnOk result (reached.new.tomb ≡ tomb_after reached.old.tomb frag.now) }
 {
@@ -127,21 +202,20 @@ fn fill_one<H, P: Filler<H>>(
     }
 }
 
-/// Takes in what all fragments of a partition say, from its beginning to its end. The only error is want of memory: then the rest is not taken in.
-pub(crate) fn fill_all<H, P: Filler<H>>(
+/// Takes in what all fragments of a partition say, from its beginning to its end. Where their keys are within the limits, what is lost is lost in a crowded region. The only error is want of memory: then the rest is not taken in.
+pub(crate) fn fill_all<const S: usize>(
     alloc: Global,
-    home: &mut H,
-    filler: &mut P,
+    home: &mut Chains<S>,
+    filler: &StreamFiller,
     frags: &[Frag],
 ) -> Result<(), AllocError>
-    requires ready { P.ready filler.old home.old }
-    requires fits { (p : P) (x : Position) → P.fits p x }
-    requires lost { (p q : P) (h g : H) → P.fills p h q g → P.lost h ≤ P.lost g }
+    requires ready { IsFillerReady S filler.now.filler home.old }
     requires written { AllWritten frags.now }
-    requires source { (writes : List Mutation) × P.stands filler.old home.old writes × SaysAll writes first_position None frags.now }
-    ensures filled { IsFilledBy (of_filler P.ready P.fits P.may P.lost P.stands P.knows P.knows_statics P.fills) filler.old home.old filler.new home.new }
-    ensures known { OnOk result (Unlost (P.may filler.old home.old) (P.lost home.old) (P.lost home.new) (IsKnownOver (P.knows filler.new home.new) first_position end_position)) }
-    ensures stands { (writes : List Mutation) → P.stands filler.old home.old writes → SaysAll writes first_position None frags.now → P.stands filler.new home.new writes }
+    requires source { (writes : List Mutation) × StandsForWrites S home.old filler.now.filler.chain filler.now.filler.pin writes × SaysAll writes first_position None frags.now }
+    ensures filled { IsFilledBy (of_its_filler S) filler.now home.old filler.now home.new }
+    ensures known { OnOk result (Unlost (MayFill home.old filler.now.filler.chain filler.now.filler.pin) (losses home.old) (losses home.new) (IsKnownOver (FillerKnows home.new filler.now.filler) first_position end_position)) }
+    ensures stands { (writes : List Mutation) → StandsForWrites S home.old filler.now.filler.chain filler.now.filler.pin writes → SaysAll writes first_position None frags.now → StandsForWrites S home.new filler.now.filler.chain filler.now.filler.pin writes }
+    ensures loses { AllFit frags.now → LosesWhereCrowded S 0 home.old home.new }
 {
     let mut reached = Reached {
         at: bare(alloc, Weight::Before),

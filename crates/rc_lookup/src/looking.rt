@@ -5,6 +5,7 @@ ghost use Rattle.rc_mutation.specs.declared.mutations.Mutation.{Mutation};
 ghost use Rattle.rc_core.specs.Version.{end_position};
 ghost use Rattle.rc_chain.specs.declared.chains.Snap.{Snap as Snapshot};
 ghost use Rattle.rc_row_cache.specs.Found.{IsForgotten, entry_number};
+ghost use Rattle.rc_row_cache.specs.Crowding.{LosesWhereCrowded};
 ghost use Rattle.rc_row_cache.specs.Entries.{AreEntries};
 ghost use Rattle.rc_cursor.specs.Snapshots.{Knows};
 ghost use Rattle.rc_cacheread.specs.Passing.{IsKnownOver};
@@ -203,6 +204,7 @@ pub fn lookup<const S: usize>(
     ensures known { (id : ℕ) → entry_number cache.old.entries key.now ≡ Some id → IsChainKnown chains.old id → IfOk result IsSome }
     ensures whole { IfOk result (λ o. IfSome o (λ _. IsSomeAnd (entry_number cache.new.entries key.now) (IsChainKnown chains.new))) }
     ensures left { IsLookedUp chains.old chains.new }
+    ensures loses { LosesWhereCrowded S 0 chains.old chains.new }
     ensures stays { (q : Sequence ℕ) → IsEntryStill q cache.old.entries chains.old cache.new.entries chains.new }
     ensures hit { IfOk result (λ o. IfSome o (λ _. IsSomeAnd (entry_number cache.new.entries key.now) (λ id. IsMadeRecent id chains.old.recency chains.new.recency))) }
     ensures missed { IfOk result (λ o. IfNone o (IsUnread chains.old chains.new)) }

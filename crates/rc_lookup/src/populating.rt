@@ -1,6 +1,6 @@
 //! What was read of a partition is put into the row cache, whole.
-ghost use Rattle.std.specs.Prelude.{◌≡◌, ◌*◌, ◌/◌, ◌≤◌, ◌∷◌, ℕ, [], None, Some, List as Sequence, All, Contains, IsSomeAnd, OnOk};
-ghost use Rattle.rc_schema.specs.SchemaValue.{SchemaValue};
+ghost use Rattle.std.specs.Prelude.{◌≡◌, ◌*◌, ◌/◌, ◌≤◌, ◌∷◌, ℕ, [], None, Some, List as Sequence, All, Contains, IsSomeAnd, IsTrue, OnOk};
+ghost use Rattle.rc_schema.specs.SchemaValue.{SchemaValue, is_schema};
 ghost use Rattle.rc_mutation.specs.declared.mutations.Mutation.{Mutation as Change};
 ghost use Rattle.rc_mutation.specs.Source.{SameSource};
 ghost use Rattle.rc_writes.specs.Allowed.{ChangeFits};
@@ -10,6 +10,7 @@ ghost use Rattle.rc_memory.specs.Memory.{Memory, chain_at};
 ghost use Rattle.rc_cached.specs.Filling.{MayFill};
 ghost use Rattle.rc_row_cache.specs.Found.{entry_number};
 ghost use Rattle.rc_row_cache.specs.Entries.{AreEntries, LeavesCached};
+ghost use Rattle.rc_row_cache.specs.Crowding.{LosesWhereCrowded};
 ghost use Rattle.rc_row_cache.specs.Fillers.{losses};
 ghost use Rattle.rc_cached.specs.Stands.{HasCacheSnapshot, StandsForWrites};
 ghost use Rattle.rc_cached.specs.Coming.{AreCountsInRange};
@@ -33,6 +34,7 @@ use rc_row_cache::entries_laws::{
     each_change_leaves_the_caches_chains, each_key_is_found,
     what_leaves_the_caches_chains_leaves_the_entries,
 };
+use rc_row_cache::evict_laws::a_chain_that_is_dropped_had_its_ends_alone;
 use rc_row_cache::filler_laws::{a_fill_spares_memtables_and_readers, a_fill_takes_no_segment};
 use rc_row_cache::footprint::{
     chains_of_the_cache_stay_in_use, each_chain_of_the_cache_has_one_version,
@@ -57,6 +59,7 @@ fn forget_entry<const S: usize>(cache: &mut RowCache, chains: &mut Chains<S>, ke
     ensures stays { (q : Sequence ℕ) → (q ≡ key.now → ⊥) → IsEntryStill q cache.old.entries chains.old cache.new.entries chains.new }
     ensures entries { AreEntries cache.new.entries chains.new }
     ensures rest { LeavesRest chains.old chains.new }
+    ensures loses { LosesWhereCrowded S 0 chains.old chains.new }
     ensures says { (schema : SchemaValue) (below : Below) → CacheSays schema below chains.old → CacheSays schema below chains.new }
 {
     chains_of_the_cache_stay_in_use();
@@ -65,6 +68,7 @@ fn forget_entry<const S: usize>(cache: &mut RowCache, chains: &mut Chains<S>, ke
     what_calls_leave_of_memtables();
     chains.known();
     cache.forget(chains, key);
+    chains.known();
 }
 
 // A count of 64 bits.
@@ -94,6 +98,7 @@ fn fill_read<const S: usize>(
     ensures through { IsFilledThrough S snap.now chains.old chains.new }
     ensures may { MayFill chains.old snap.now.chain snap.now.pin → MayFill chains.new snap.now.chain snap.now.pin }
     ensures stands { (writes : Sequence Change) → StandsForWrites S chains.old snap.now.chain snap.now.pin writes → SameSource (read.now ∷ []) writes → StandsForWrites S chains.new snap.now.chain snap.now.pin writes }
+    ensures loses { (schema : SchemaValue) → IsTrue (is_schema schema) → ChangeFits schema read.now → LosesWhereCrowded S 0 chains.old chains.new }
     ensures known { OnOk result (MayFill chains.old snap.now.chain snap.now.pin → NoneLost (losses chains.old) (losses chains.new) → IsKnownOver (Knows chains.new snap.now) first_position end_position) }
 {
     a_fill_spares_memtables_and_readers();
@@ -107,8 +112,8 @@ fn fill_read<const S: usize>(
     read.holds_together();
     match read.fragments(alloc) {
         Ok(list) => {
-            let mut filler = StreamFiller::of(snap);
-            fill_all(alloc, chains, &mut filler, list.as_slice())
+            let filler = StreamFiller::of(snap);
+            fill_all(alloc, chains, &filler, list.as_slice())
         }
         Err(error) => Err(error),
     }
@@ -130,8 +135,10 @@ fn fill_entry<const S: usize>(
     ensures cached { LeavesCached chains.old chains.new }
     ensures says { (schema : SchemaValue) (below : Below) (h : HasCacheSnapshot chains.old snap.chain snap.pin) (writes : Sequence Change) → All (ChangeFits schema) writes → StandsForWrites S chains.old snap.chain snap.pin writes → SameSource (read.now ∷ []) writes → SameSource (below snap.chain (phase_pinned h)) writes →
         CacheSays schema below chains.old → CacheSays schema below chains.new }
+    ensures loses { (schema : SchemaValue) → IsTrue (is_schema schema) → ChangeFits schema read.now → LosesWhereCrowded S 0 chains.old chains.new }
     ensures known { OnOk result (MayFill chains.old snap.chain snap.pin → NoneLost (losses chains.old) (losses chains.new) → KnowsStaticRow chains.old snap → Contains chains.old.recency (member snap.chain 0 (Some end_position)) → IsChainKnown chains.new snap.chain) }
 {
+    a_chain_that_is_dropped_had_its_ends_alone();
     chains_of_the_cache_stay_in_use();
     each_chain_of_the_cache_has_one_version();
     each_change_leaves_the_caches_chains();
@@ -144,7 +151,9 @@ fn fill_entry<const S: usize>(
     let filled = fill_read(alloc, chains, &snap, read);
     chains.known();
     chains.release(snap);
+    chains.known();
     chains.sweep(chain);
+    chains.known();
     filled
 }
 
@@ -161,6 +170,7 @@ fn enter_read<const S: usize>(
     requires roomy { 8952 ≤ 7 * S / 8 }
     requires over { (schema : SchemaValue) × (below : Below) × IsCacheOver S schema below chains.old × ChangeFits schema read.now }
     ensures known { OnOk result (NoneLost (losses chains.old) (losses chains.new) → IsSomeAnd (entry_number cache.new.entries key.now) (IsChainKnown chains.new)) }
+    ensures loses { LosesWhereCrowded S 1 chains.old chains.new }
     ensures rest { LeavesRest chains.old chains.new }
     ensures says { (schema : SchemaValue) (below : Below) (writes : Sequence Change) → IsCacheOver S schema below chains.old → All (ChangeFits schema) writes → SameSource (read.now ∷ []) writes →
         CacheSays schema (below_entry (entry_number cache.new.entries key.now) (λ _. writes) below) chains.new }
@@ -188,7 +198,7 @@ fn enter_read<const S: usize>(
     }
 }
 
-/// Puts what was read of a partition into the row cache, in place of what it has of it: in a new entry, for which and for each part of which room is made by moves and evictions; what finds no room is left out. All else that it has stays, where nothing is lost. No snapshot of the cache is taken that was not. The only error is want of memory: then the cache has some of it, or nothing.
+/// Puts what was read of a partition into the row cache, in place of what it has of it: in a new entry, for which and for each part of which room is made by moves and evictions; what finds no room is left out. All else that it has stays, where nothing is lost; and what is lost is lost in a crowded region: one version is made at most. No snapshot of the cache is taken that was not. The only error is want of memory: then the cache has some of it, or nothing.
 pub fn populate<const S: usize>(
     alloc: Global,
     cache: &mut RowCache,
@@ -200,6 +210,7 @@ pub fn populate<const S: usize>(
     requires roomy { 8952 ≤ 7 * S / 8 }
     requires over { (schema : SchemaValue) × (below : Below) × IsCacheOver S schema below chains.old × ChangeFits schema read.now }
     ensures known { OnOk result (NoneLost (losses chains.old) (losses chains.new) → IsSomeAnd (entry_number cache.new.entries key.now) (IsChainKnown chains.new)) }
+    ensures loses { LosesWhereCrowded S 1 chains.old chains.new }
     ensures rest { LeavesRest chains.old chains.new }
     ensures says { (schema : SchemaValue) (below : Below) (writes : Sequence Change) → IsCacheOver S schema below chains.old → All (ChangeFits schema) writes → SameSource (read.now ∷ []) writes →
         CacheSays schema (below_entry (entry_number cache.new.entries key.now) (λ _. writes) below) chains.new }

@@ -12,10 +12,11 @@ use Rattle.rc_schema.specs.SchemaValue.{SchemaValue}
 use Rattle.rc_mutation.specs.declared.mutations.Write.{Write}
 use Rattle.rc_memory.specs.Memory.{KeptChain, Memory, chain_at, on_shown, shown_detached}
 use Rattle.rc_memory.specs.Room.{chain_bytes}
+use Rattle.rc_entries.specs.Detached.{IsDetached}
 use Rattle.rc_filler.specs.LetGo.{AreLetGo, IsLetGo}
 use Rattle.rc_filler.specs.Writes.{DoAscend, HasWrites, chain_of}
 use Rattle.rc_row_cache.proofs.Leaving.{Leaves, leaves-changed, leaves-gone, leaves-same, leaves-then}
-use Rattle.rc_row_cache.proofs.Numbered.{chain-beside, changed-beside, none-is-none}
+use Rattle.rc_row_cache.proofs.Numbered.{chain-beside, changed-beside, none-is-none, there-or-not}
 
 -- ---- keys
 
@@ -73,6 +74,9 @@ module _ (e : List ℕ × ℕ) (es : List (List ℕ × ℕ)) (m n : Memory) (h :
   one-list : n.recency ≡ m.recency
   one-list = elim (gone mine.0 mine.1) [ inl freed ↦ freed.1.recency | inr kept ↦ kept.1.recency ]
 
+  one-counts : n.counts ≡ m.counts
+  one-counts = elim (gone mine.0 mine.1) [ inl freed ↦ freed.1.counts | inr kept ↦ kept.1.counts ]
+
   theirs-later : AreTheirs es n
   theirs-later = record {
     ascend = sorted_tail bytes_cmp e.0 (map (λ (d : List ℕ × ℕ). d.0) es) h.ascend;
@@ -89,6 +93,10 @@ all-list : (es : List (List ℕ × ℕ)) (m n : Memory) → AreTheirs es m → A
 all-list [] m n h same = ap (λ (x : Memory). x.recency) same
 all-list (e ∷ es) m n h (mid, one, rest) = all-list es mid n (theirs-later e es m mid h one) rest ∙ one-list e es m mid h one
 
+all-counts : (es : List (List ℕ × ℕ)) (m n : Memory) → AreTheirs es m → AreLetGo (map (λ (e : List ℕ × ℕ). e.1) es) m n → n.counts ≡ m.counts
+all-counts [] m n h same = ap (λ (x : Memory). x.counts) same
+all-counts (e ∷ es) m n h (mid, one, rest) = all-counts es mid n (theirs-later e es m mid h one) rest ∙ one-counts e es m mid h one
+
 theirs-of : (schema : SchemaValue) (es : List (List ℕ × ℕ)) (m : Memory) (writes : List Write) → DoAscend es → HasWrites schema es m writes → AreTheirs es m
 theirs-of schema es m writes ascend h = record { ascend = ascend; there = λ key id e. (let k = h.kept key id e in (k.0, k.1)); apart = h.apart }
 
@@ -98,3 +106,10 @@ let-go-leaves schema es m n writes ascend h = all-leave es m n (theirs-of schema
 -- the recency list is as it was
 pub let-go-list : (schema : SchemaValue) (es : List (List ℕ × ℕ)) (m n : Memory) (writes : List Write) → DoAscend es → HasWrites schema es m writes → AreLetGo (map (λ (e : List ℕ × ℕ). e.1) es) m n → n.recency ≡ m.recency
 let-go-list schema es m n writes ascend h = all-list es m n (theirs-of schema es m writes ascend h)
+
+-- nothing is counted
+pub let-go-counts : (schema : SchemaValue) (es : List (List ℕ × ℕ)) (m n : Memory) (writes : List Write) → DoAscend es → HasWrites schema es m writes → AreLetGo (map (λ (e : List ℕ × ℕ). e.1) es) m n → n.counts ≡ m.counts
+let-go-counts schema es m n writes ascend h = all-counts es m n (theirs-of schema es m writes ascend h)
+
+pub detached-counts : (id : ℕ) (old new : Memory) → IsDetached id old new → new.counts ≡ old.counts
+detached-counts id old new d = there-or-not (chain_at old id) (λ none. ap (λ (x : Memory). x.counts) (d.gone none)) (λ k there. (d.there k there).2.counts)

@@ -26,3 +26,4 @@ mod Putting
 mod Going
 mod Spared
 mod Ways
+mod Crowded

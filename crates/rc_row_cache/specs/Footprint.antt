@@ -1,16 +1,19 @@
 -- How many bytes of a region the chains of memtables take, and how many those of the row cache.
 --     is_chain_of       a chain is of a kind
 --     kind_bytes        how many bytes the chains of a kind take together: memtable_bytes, cache_bytes
+--     cache_versions    how many versions the chains of the cache have
+--     IsCrowdedForWrite, LosesBeforeWrite   how full memory is where something is evicted for a write
 --     HaveOneVersion    each chain of the cache has one version
 --     NoUpdateStands    no update stands in a chain of the cache
 --     AreInUse          no chain of the cache is to be dropped
 --     cache_snapshots   how many snapshots of chains of the cache are taken
-use Rattle.std.specs.Prelude.{◌≡◌, ℕ, Bool, false, not, Some, filter, length, sum_by}
+use Rattle.std.specs.Prelude.{◌≡◌, ◌⊎◌, ◌+◌, ◌-◌, ◌*◌, ◌/◌, ◌<◌, ℕ, Bool, false, not, Some, filter, length, sum_by}
 use Rattle.rc_core.specs.declared.entries.ChainKind.{ChainKind}
 use Rattle.rc_core.specs.declared.entries.ChainKind.TheVariants.{Cache, Memtable}
 use Rattle.rc_memory.specs.Kept.{present}
 use Rattle.rc_memory.specs.Memory.{KeptChain, Memory, chain_at}
 use Rattle.rc_memory.specs.Room.{chain_bytes}
+use Rattle.rc_filler.specs.Crowding.{LosesNothing, version_count}
 use Rattle.rc_filler.specs.Lives.{IsIdle, is_cache}
 
 -- whether a chain is of a kind
@@ -29,6 +32,18 @@ memtable_bytes m = kind_bytes Memtable m
 -- how many bytes the row cache takes, with the chains that are found by their keys no more
 abbrev pub cache_bytes : Memory → ℕ
 cache_bytes m = kind_bytes Cache m
+
+-- how many versions the chains of the cache have
+abbrev pub cache_versions : Memory → ℕ
+cache_versions m = sum_by version_count (filter (is_chain_of Cache) (present m.chains))
+
+-- What memtables took before a write and what the cache takes after it are more than three quarters of all but two segments, once there is added: an eighth of a segment, for one object; and 152 bytes, a head and an end dummy, for each version of the cache that went.
+abbrev pub IsCrowdedForWrite : ℕ → Memory → Memory → Type 0
+IsCrowdedForWrite S old new = 3 * S / 4 * (length new.region.usages - 2) < memtable_bytes old + cache_bytes new + S / 8 + 152 * (cache_versions old - cache_versions new)
+
+-- nothing was lost for a write, or memory was so full
+abbrev pub LosesBeforeWrite : ℕ → Memory → Memory → Type 0
+LosesBeforeWrite S old new = LosesNothing old new ⊎ IsCrowdedForWrite S old new
 
 -- each chain of the cache has one version, as long as no update begins
 abbrev pub HaveOneVersion : Memory → Type 0

@@ -2,7 +2,10 @@ pub mod Saying
 pub mod Leaving
 pub mod Calls
 pub mod Footprint
+pub mod laws
 pub use Rattle.rc_filler.specs.Fillers
+pub use Rattle.rc_filler.specs.Crowding
+pub use Rattle.rc_filler.specs.Crowds
 pub use Rattle.rc_entries.specs.Found
 pub use Rattle.rc_entries.specs.Entries
 pub use Rattle.rc_entries.specs.Detached

@@ -33,7 +33,7 @@ ghost use Rattle.rc_unstored.specs.Steps.{IsNotPut, IsPutBehind, IsPutRefused};
 ghost use Rattle.rc_row_cache.specs.Calls.{IsEnterRefused, IsEntered, IsKeptOut, IsTakenOf};
 ghost use Rattle.rc_row_cache.specs.Leaving.{AreCachesSame, IsRoomMadeBeside};
 ghost use Rattle.rc_row_cache.specs.Saying.{AreFillsDone};
-ghost use Rattle.rc_row_cache.specs.Footprint.{AreInUse, HaveOneVersion, NoUpdateStands, cache_bytes, cache_snapshots, memtable_bytes};
+ghost use Rattle.rc_row_cache.specs.Footprint.{AreInUse, HaveOneVersion, LosesBeforeWrite, NoUpdateStands, cache_bytes, cache_snapshots, memtable_bytes};
 
 use crate::laws::calls_on_memtables_leave_the_cache;
 use rc_entries::laws::what_an_invalidation_leaves;
@@ -55,6 +55,22 @@ pub fn a_write_is_of_a_memtable()
     evictions_leave_the_use_of_a_chain();
     what_leaves_the_chains_of_both_leaves_their_writes();
 }
+
+/// What is evicted for a write is evicted where memory is crowded, where what is live is what all chains take: also where no room could be made, and the write was not put.
+pub fn a_write_evicts_where_memory_is_crowded()
+    ensures put { (S : ℕ) (schema : SchemaValue) (w : Write) (old new : Unstored S) (writes later : List Write) → IsPutBehind schema w old new → IsRecency old.chains → HaveWrites schema old writes later → LosesBeforeWrite S old.chains new.chains }
+    ensures not_put { (S : ℕ) (old new : Unstored S) → IsNotPut old new → IsRecency old.chains → IsLiveInChains new.chains → LosesBeforeWrite S old.chains new.chains }
+{
+    evictions_leave_the_use_of_a_chain();
+    evictions_spare_memtables_and_readers();
+    what_leaves_the_chains_of_both_leaves_their_writes();
+}
+
+/// Where the sealed writes are let go nothing is counted, and so where chains are detached.
+pub fn what_is_let_go_counts_nothing()
+    ensures let_go { (S : ℕ) (schema : SchemaValue) (u : Unstored S) (new : Memory) (writes later : List Write) → DoAscend u.sealed → HaveWrites schema u writes later → AreLetGo (map (λ e. e.1) u.sealed) u.chains new → new.counts ≡ u.chains.counts }
+    ensures detached { (id : ℕ) (old new : Memory) → IsDetached id old new → new.counts ≡ old.counts }
+{}
 
 /// By no other call memtables take more: where objects moved, where objects were evicted, where room was made, where no write was put, where a snapshot was taken or taken back, of whatever chain, where the sealed writes were let go; and where a partition entered the row cache or was kept out, or memory was refused for it, where fills were done, where partitions were invalidated or detached, where a chain is gone, and where chains were read.
 pub fn what_calls_leave_of_memtables()

@@ -10,7 +10,8 @@ ghost use Rattle.rc_mutation.specs.declared.mutations.Mutation.{Mutation as Chan
 ghost use Rattle.rc_mutation.specs.Source.{source_at_head, source_at_static};
 ghost use Rattle.rc_writes.specs.Allowed.{ChangeFits};
 ghost use Rattle.rc_version.specs.Versions.{statics_bytes};
-ghost use Rattle.rc_memory.specs.Memory.{KeptChain, Memory, chain_at, with_dropped};
+ghost use Rattle.rc_memory.specs.Memory.{KeptChain, Memory, chain_at, raised_by, with_dropped};
+ghost use Rattle.rc_filler.specs.Crowding.{LosesWhereCrowded};
 ghost use Rattle.rc_entries.specs.Filling.{IsEntryOpened, MayFill, given};
 ghost use Rattle.rc_entries.specs.Detached.{IsDetached};
 ghost use Rattle.rc_entries.specs.Found.{IsForgotten, entry_number};
@@ -83,7 +84,7 @@ impl RowCache {
         }
     }
 
-    /// Opens an entry for a partition that is none, by the head of what was read of it at a phase, once room was made for it by moves and evictions, and takes a snapshot of its chain. Entries whose chains are gone are forgotten. None where no room can be made: then one more skipped opening is counted. The only error is want of memory: then no snapshot was taken, and an entry was opened or none, once room was made or at once.
+    /// Opens an entry for a partition that is none, by the head of what was read of it at a phase, once room was made for it by moves and evictions, and takes a snapshot of its chain. Entries whose chains are gone are forgotten. None where no room can be made: then one more skipped opening is counted. What is lost is lost in a crowded region. The only error is want of memory: then no snapshot was taken, and an entry was opened or none, once room was made or at once.
     pub fn enter<const S: usize>(
         &mut self,
         alloc: Global,
@@ -106,6 +107,7 @@ impl RowCache {
         ensures settled { OnOk result (AreSettled self.new.entries chains.new) }
         ensures says { (schema : SchemaValue) (below : Below) (writes : ℕ → Sequence Change) → All (ChangeFits schema) (writes phase) → source_at_head (writes phase) ≡ read.now.pt → source_at_static (writes phase) ≡ read.now.statics →
             CacheSays schema below chains.old → CacheSays schema (below_entry (entry_number self.new.entries key.now) writes below) chains.new }
+        ensures loses { LosesWhereCrowded S 1 chains.old chains.new }
         ensures pins { (below : ℕ → Sequence Change) (id pin : ℕ) → PinsAlike below below id pin chains.old chains.new }
         ensures seen { AllStillSee chains.old chains.new }
     {
@@ -138,6 +140,7 @@ impl RowCache {
         ensures settled { AreSettled self.new.entries chains.new }
         ensures says { (schema : SchemaValue) (below : Below) (writes : ℕ → Sequence Change) → All (ChangeFits schema) (writes phase) → source_at_head (writes phase) ≡ head.now.pt → source_at_static (writes phase) ≡ head.now.statics →
             CacheSays schema below chains.old → CacheSays schema (below_entry (entry_number self.new.entries key.now) writes below) chains.new }
+        ensures loses { LosesWhereCrowded S 1 chains.old chains.new }
         ensures pins { (below : ℕ → Sequence Change) (id pin : ℕ) → PinsAlike below below id pin chains.old chains.new }
         ensures seen { AllStillSee chains.old chains.new }
     {
@@ -148,6 +151,7 @@ impl RowCache {
         the_cache_says_what_lies_below();
         what_leaves_the_caches_chains_leaves_the_entries();
         chains.known();
+        counts_in_range(chains);
         let need = 152 + static_need(&head.statics);
         let room = make_room(chains, need);
         self.entries.forget_dropped(chains);
@@ -185,14 +189,19 @@ impl RowCache {
         ensures settled { AreSettled self.new.entries chains.new }
         ensures says { (schema : SchemaValue) (below : Below) (writes : ℕ → Sequence Change) → All (ChangeFits schema) (writes phase) → source_at_head (writes phase) ≡ head.now.pt → source_at_static (writes phase) ≡ head.now.statics →
             CacheSays schema below chains.old → CacheSays schema (below_entry (entry_number self.new.entries key.now) writes below) chains.new }
+        ensures loses { LosesWhereCrowded S 1 chains.old chains.new }
         ensures pins { (below : ℕ → Sequence Change) (id pin : ℕ) → PinsAlike below below id pin chains.old chains.new }
         ensures seen { NothingIsLost chains.old chains.new }
     {
         each_key_is_found();
         one_more_snapshot_keeps_what_is_said();
         the_cache_says_what_lies_below();
+        chains.known();
         match self.entries.open(alloc, chains, key, phase, head) {
-            Ok(id) => snapshot_of(chains, &self.entries, key, id),
+            Ok(id) => {
+                chains.known();
+                snapshot_of(chains, &self.entries, key, id)
+            }
             Err(error) => Err(error),
         }
     }
@@ -238,6 +247,19 @@ impl RowCache {
     }
 }
 
+// A count of 64 bits that is raised by nothing is as it was.
+fn in_range(_count: u64)
+    ensures { raised_by 0 _count ≡ _count }
+{}
+
+// What chains became smaller by is counted by a number of 64 bits.
+fn counts_in_range<const S: usize>(chains: &Chains<S>)
+    ensures { raised_by 0 chains.now.counts.shrunk ≡ chains.now.counts.shrunk }
+{
+    let counts = chains.counts();
+    in_range(counts.shrunk);
+}
+
 // The head of what was read of a partition.
 fn head_of(alloc: Global, read: &Mutation) -> Result<Head, AllocError>
     ensures { IfOk result (λ head. (head.pt ≡ read.now.pt) × (head.statics ≡ read.now.statics)) }
@@ -266,6 +288,7 @@ fn snapshot_of<const S: usize>(
     ensures settled { AreSettled entries.now chains.new }
     ensures says { (schema : SchemaValue) (below : Below) → CacheSays schema below chains.old → CacheSays schema below chains.new }
     ensures may { IfOk result (λ o. IfSome o (λ s. (schema : SchemaValue) (below : Below) → CacheSays schema below chains.old → MayFill chains.new s.chain s.pin)) }
+    ensures loses { LosesWhereCrowded S 0 chains.old chains.new }
     ensures pins { (below : ℕ → Sequence Change) (i pin : ℕ) → PinsAlike below below i pin chains.old chains.new }
     ensures seen { NothingIsLost chains.old chains.new }
 {

@@ -17,3 +17,4 @@ mod Looking
 mod Filled
 mod Evicted
 pub mod Counted
+mod Losing

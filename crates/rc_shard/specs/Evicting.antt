@@ -1,12 +1,12 @@
 -- What the row cache gives up where it is told to.
 --     AreFirstEvicted    the first objects of the recency list went
 --     IsEvictedAsTold    so the shard does where an eviction is answered
---     LosesNothing       nothing is evicted, and no fill skipped
---     IsLostAsTold       by which commands that is so
+--     IsLostAsTold       by which commands nothing is evicted, or no fill skipped
 use Rattle.std.specs.Prelude.{◌≡◌, ⊤, ℕ, List, length, min}
 use Rattle.rc_lines.specs.declared.commands.Command.{Command}
 use Rattle.rc_lines.specs.declared.commands.Command.TheVariants.{Close, Compact, Evict, Nothing, Put, Read, SetSchema, Stats}
 use Rattle.rc_memory.specs.Memory.{Member, Memory}
+use Rattle.rc_lookup.specs.Crowding.{LosesNothing}
 use Rattle.rc_lookup.specs.Evictions.{AreEvicted}
 
 -- The first objects of the recency list went, so many, or all where it had fewer, and chains that nobody pinned with their last ones. The rest stays in its order.
@@ -17,10 +17,6 @@ AreFirstEvicted count old new = (went : List Member) × (gone : List ℕ) × Are
 abbrev pub IsEvictedAsTold : Command → Memory → Memory → Type 0
 IsEvictedAsTold (Evict count) old new = AreFirstEvicted count old new
 IsEvictedAsTold command old new = ⊤
-
--- nothing was evicted, and no fill was skipped
-abbrev pub LosesNothing : Memory → Memory → Type 0
-LosesNothing old new = (new.counts.evicted ≡ old.counts.evicted) × (new.counts.skipped ≡ old.counts.skipped)
 
 -- A schema line, a read, a closing, a compaction, figures and an empty line lose nothing; a write and an eviction that is told skip no fill.
 abbrev pub IsLostAsTold : Command → Memory → Memory → Type 0

@@ -3,6 +3,7 @@ pub mod Stands
 pub mod Counting
 pub mod Compacting
 pub mod Evicting
+pub mod Losing
 pub mod Knowing
 pub mod Opening
 pub mod calls

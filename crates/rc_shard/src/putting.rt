@@ -6,11 +6,13 @@ ghost use Rattle.rc_writes.specs.Single.{IsSingle};
 ghost use Rattle.rc_mutation.specs.declared.mutations.Write.{Write as Written};
 ghost use Rattle.rc_lookup.specs.Writes.{AreSmall};
 ghost use Rattle.rc_lookup.specs.Memtables.{HaveWrites, IsFullFor};
+ghost use Rattle.rc_shard.specs.Losing.{LosesForWrite};
 ghost use Rattle.rc_shard.specs.calls.Caching.{IsFull};
 ghost use Rattle.rc_shard.specs.calls.Storing.{IsKept, IsPutIn};
 
 use crate::leaving::{what_calls_leave_of_the_cache, what_is_live_is_of_memtables};
 use rc_lookup::Unstored;
+use rc_lookup::footprint::a_write_evicts_where_memory_is_crowded;
 use rc_lookup::unstored_laws::what_a_call_leaves_of_the_room;
 use rc_mutation::Write;
 use rc_schema::Schema;
@@ -32,8 +34,10 @@ pub(crate) fn put_in(
     ensures none { IfOk result (λ done. done ≡ false → IsFullFor 131072 schema.now w.now unstored.new) }
     ensures full { IfOk result (λ done. done ≡ false → IsFull unstored.new.chains) }
     ensures skips { OnOk result (unstored.new.chains.counts.skipped ≡ unstored.old.chains.counts.skipped) }
+    ensures crowds { OnOk result (LosesForWrite unstored.old.chains unstored.new.chains) }
     ensures err { OnErr result (IsKept schema.now unstored.old unstored.new) }
 {
+    a_write_evicts_where_memory_is_crowded();
     what_a_call_leaves_of_the_room();
     what_calls_leave_of_the_cache();
     what_is_live_is_of_memtables();

@@ -17,6 +17,7 @@ ghost use Rattle.rc_stream.specs.Stream.{stream_of};
 ghost use Rattle.rc_memory.specs.Memory.{HasPin};
 ghost use Rattle.rc_chain.specs.declared.chains.Snap.{Snap as Snapshot};
 ghost use Rattle.rc_snapshots.specs.Seeing.{AreThere};
+ghost use Rattle.rc_lookup.specs.Crowding.{LosesWhereCrowded};
 ghost use Rattle.rc_lookup.specs.Fillers.{losses};
 ghost use Rattle.rc_lookup.specs.Memtables.{HaveWrites};
 ghost use Rattle.rc_lookup.specs.Readers.{IsNoneOf};
@@ -35,6 +36,7 @@ ghost use Rattle.rc_folder.specs.Tabled.{IsNextNumber};
 ghost use Rattle.rc_shard.specs.Counting.{figures_of};
 ghost use Rattle.rc_shard.specs.Compacting.{IsCompactedAsTold};
 ghost use Rattle.rc_shard.specs.Evicting.{IsEvictedAsTold, IsLostAsTold};
+ghost use Rattle.rc_shard.specs.Losing.{IsLostInCrowd, LosesForWrite, LosesInCrowd};
 ghost use Rattle.rc_shard.specs.Knowing.{AsksNothingWhereKnown, IsCachedWhole, IsKnownOnceOpened, IsPartitionRecent, IsRecentOnceHit, StaysKnown};
 ghost use Rattle.rc_shard.specs.Opening.{IsOnePinned, IsOpenedAsTold, PinsPartition};
 ghost use Rattle.rc_shard.specs.Stands.{AreOfTwo, AreTwo, IsFullAsTold, holding};
@@ -50,6 +52,7 @@ use crate::putting::put_in;
 use rc_census::census;
 use rc_folder::{Answered, Folder, Machine, OpenErr};
 use rc_lines::{Command, Figures, Refusal, Reply};
+use rc_lookup::footprint::what_is_let_go_counts_nothing;
 use rc_lookup::row_cache_laws::the_cache_says_what_lies_below;
 use rc_lookup::snapshots_laws::a_snapshot_sees_what_it_saw;
 use rc_lookup::unstored_laws::{
@@ -164,6 +167,7 @@ impl Machine for Shard {
         ensures evicts { IsEvictedAsTold command.now self.old.unstored.chains self.new.unstored.chains }
         ensures compacts { IsCompactedAsTold command.now self.old.unstored.chains self.new.unstored.chains }
         ensures loses { OnOk result (IsLostAsTold command.now self.old.unstored.chains self.new.unstored.chains) }
+        ensures crowds { OnOk result (IsLostInCrowd command.now self.old.unstored.chains self.new.unstored.chains) }
         ensures figures { IfOk result (λ reply. AreCounted command.now reply (W.asks store.old) (W.asks store.new) (figures_of self.old) (figures_of self.new)) }
     {
         let before = store.asks();
@@ -239,6 +243,7 @@ impl Shard {
         ensures evicts { IsEvictedAsTold command.now self.old.unstored.chains self.new.unstored.chains }
         ensures compacts { IsCompactedAsTold command.now self.old.unstored.chains self.new.unstored.chains }
         ensures loses { OnOk result (IsLostAsTold command.now self.old.unstored.chains self.new.unstored.chains) }
+        ensures crowds { OnOk result (IsLostInCrowd command.now self.old.unstored.chains self.new.unstored.chains) }
         ensures counts { CountsStay self.old self.new }
         ensures told { IfOk result (λ reply. IfSome (figures_in command.now reply) (λ figures. figures ≡ figures_of self.old (W.asks store.old))) }
     {
@@ -288,6 +293,7 @@ impl Shard {
         ensures faultless { (n : ℕ) → IfOk result (λ reply. OnFaulty reply (Rose n n)) }
         ensures full { IfOk result (λ reply. IsFullAsTold (Command.Put write.now) reply self.old.folder.schema self.new.unstored) }
         ensures skips { OnOk result (self.new.unstored.chains.counts.skipped ≡ self.old.unstored.chains.counts.skipped) }
+        ensures crowds { OnOk result (LosesForWrite self.old.unstored.chains self.new.unstored.chains) }
         ensures left { IsCacheLeft self.old self.new }
         ensures err { OnErr result (Keeps ⟦<Shard as Machine>⟧.stands self.old self.new) }
         ensures counts { CountsStay self.old self.new }
@@ -324,6 +330,7 @@ impl Shard {
         ensures filled { IfOk result (λ reply. IsKnownOnceOpened (Command.OpenRead id key.now slice.now) reply self.old self.new) }
         ensures recent { IfOk result (λ reply. IsRecentOnceHit (Command.OpenRead id key.now slice.now) reply self.old self.new) }
         ensures stays { OnOk result (AreKnownStill self.old self.new) }
+        ensures crowds { OnOk result (LosesInCrowd self.old.unstored.chains self.new.unstored.chains) }
         ensures counts { CountsStay self.old self.new }
     {
         if place_of(self.readers.as_slice(), id).is_some() {
@@ -352,6 +359,7 @@ impl Shard {
         ensures stays { UnlessMemory result (AreKnownStill self.old self.new) }
         ensures hit { OnOk result (IsCachedWhole self.old key.now → IsPartitionRecent key.now self.old self.new) }
         ensures keeps { KeepsOver ⟦<Shard as Machine>⟧.stands (W.files store.old) self.old self.new }
+        ensures loses { LosesWhereCrowded 131072 1 self.old.unstored.chains self.new.unstored.chains }
         ensures beside { IsCacheUsed self.old self.new }
         ensures damaged { IfErr result (IsDamageOf self.old.folder.schema key.now self.old.folder.infos) }
         ensures cause { Caused result (W.files store.old) (W.faults store.old) (W.faults store.new) }
@@ -374,6 +382,7 @@ impl Shard {
         ensures stays { (q : List ℕ) → IsCachedWhole self.old q → IsCachedWhole self.new q }
         ensures hit { IfOk result (λ o. IfSome o (λ _. IsPartitionRecent key.now self.old self.new)) }
         ensures keeps { Keeps ⟦<Shard as Machine>⟧.stands self.old self.new }
+        ensures loses { LosesWhereCrowded 131072 0 self.old.unstored.chains self.new.unstored.chains }
         ensures beside { IsCacheUsed self.old self.new }
     {
         what_is_left_stays_where_the_snapshots_see_the_same::<131_072>();
@@ -398,6 +407,7 @@ impl Shard {
         ensures whole { OnOk result (NoneLost (losses self.old.unstored.chains) (losses self.new.unstored.chains) → IsCachedWhole self.new key.now) }
         ensures stays { UnlessMemory result (AreKnownStill self.old self.new) }
         ensures keeps { KeepsOver ⟦<Shard as Machine>⟧.stands (W.files store.old) self.old self.new }
+        ensures loses { LosesWhereCrowded 131072 1 self.old.unstored.chains self.new.unstored.chains }
         ensures beside { IsCacheUsed self.old self.new }
         ensures damaged { IfErr result (IsDamageOf self.old.folder.schema key.now self.old.folder.infos) }
         ensures cause { Caused result (W.files store.old) (W.faults store.old) (W.faults store.new) }
@@ -427,6 +437,7 @@ impl Shard {
         ensures whole { OnOk result (NoneLost (losses self.old.unstored.chains) (losses self.new.unstored.chains) → IsCachedWhole self.new key.now) }
         ensures stays { OnOk result (AreKnownStill self.old self.new) }
         ensures keeps { (files : Option Files) (m : State) (said : List Change) → ⟦<Shard as Machine>⟧.stands files self.old m → IsSaid m key.now said → IsJoinOf read.now said → ⟦<Shard as Machine>⟧.stands files self.new m }
+        ensures loses { LosesWhereCrowded 131072 1 self.old.unstored.chains self.new.unstored.chains }
         ensures beside { IsCacheUsed self.old self.new }
     {
         what_is_left_stays_where_the_snapshots_see_the_same::<131_072>();
@@ -459,6 +470,7 @@ impl Shard {
             IfOk result (λ _. ⟦<Shard as Machine>⟧.stands files self.new (record m { readers = m.readers ++ (id, reader_with m key.now slice.now told.said) ∷ [] })) }
         ensures whole { IfOk result (λ _. (q : List ℕ) → IsCachedWhole self.old q → IsCachedWhole self.new q) }
         ensures recency { IfOk result (λ _. (self.new.cache.entries ≡ self.old.cache.entries) × (self.new.unstored.chains.recency ≡ self.old.unstored.chains.recency)) }
+        ensures loses { OnOk result (LosesWhereCrowded 131072 0 self.old.unstored.chains self.new.unstored.chains) }
         ensures err { OnErr result (Keeps ⟦<Shard as Machine>⟧.stands self.old self.new) }
         ensures counts { CountsStay self.old self.new }
     {
@@ -521,6 +533,7 @@ impl Shard {
         ensures err { OnErr result (Stops ⟦<Shard as Machine>⟧.stands (W.files store.old) self.old Command.Flush (W.files store.new) self.new) }
         ensures faults { FaultsAreCounted result (W.faults store.old) (W.faults store.new) }
         ensures asks { W.asks store.new ≡ W.asks store.old }
+        ensures same { OnOk result (self.new.unstored.chains.counts ≡ self.old.unstored.chains.counts) }
         ensures counts { CountsStay self.old self.new }
     {
         what_is_left_stays_where_the_snapshots_see_the_same::<131_072>();
@@ -551,8 +564,10 @@ impl Shard {
         ensures faults { FaultsAreCounted result (W.faults store.old) (W.faults store.new) }
         ensures asks { W.asks store.new ≡ W.asks store.old }
         ensures readers { self.new.readers ≡ self.old.readers }
+        ensures same { OnOk result (self.new.unstored.chains.counts ≡ self.old.unstored.chains.counts) }
         ensures counts { CountsStay self.old self.new }
     {
+        what_is_let_go_counts_nothing();
         what_a_call_leaves_of_the_room();
         what_calls_leave_of_the_cache();
         self.unstored.sealed.known();

@@ -1,5 +1,5 @@
 //! Both memtables of a shard, with its chains.
-ghost use Rattle.std.specs.Prelude.{◌≡◌, ◌↔◌, ◌∷◌, ◌++◌, ◌+◌, ◌-◌, ◌*◌, ◌/◌, ◌%◌, ◌^◌, ◌<◌, ◌≤◌, ℕ, true, false, List as Sequence, [], Some, None, IfOk, IfSome, IsTrue, OnErr, cond, is_some, length, map};
+ghost use Rattle.std.specs.Prelude.{◌≡◌, ◌↔◌, ◌∷◌, ◌++◌, ◌+◌, ◌-◌, ◌*◌, ◌/◌, ◌%◌, ◌^◌, ◌<◌, ◌≤◌, ℕ, true, false, List as Sequence, [], Some, None, IfOk, IfSome, IsTrue, OnErr, OnOk, cond, is_some, length, map};
 ghost use Rattle.lsa_move.specs.Room.{IsCompacted};
 ghost use Rattle.lsa_pool.specs.Room.{free_count, spare_of};
 ghost use Rattle.lsa_region.specs.Region.{live_bytes};
@@ -86,7 +86,7 @@ impl<const S: usize> Unstored<S> {
         self.sealed.is_empty() && self.active.is_empty()
     }
 
-    /// Puts a write to one place, which fits the schema, behind the later ones, once there is room for it, for which objects may move and the least recently used ones of caches may be evicted. False where there is none and none can be made: then no write is put, nothing is left that may be evicted, and more than three quarters of all but two segments are live. The only error is want of memory, which leaves the writes as they were.
+    /// Puts a write to one place, which fits the schema, behind the later ones, once there is room for it, for which objects may move and the least recently used ones of caches may be evicted, unless 7S/8 bytes are spare at once. False where there is none and none can be made: then no write is put, nothing is left that may be evicted, and more than three quarters of all but two segments are live. The only error is want of memory, which leaves the writes as they were.
     pub fn put(&mut self, alloc: Global, schema: &Schema, w: &Write) -> Result<bool, AllocError>
         requires small { AreSmall S schema.now }
         requires single { IsSingle w.now.change }
@@ -99,6 +99,7 @@ impl<const S: usize> Unstored<S> {
         ensures left { IfOk result (λ done. done ≡ false → IsNotPut self.old self.new) }
         ensures refused { OnErr result (IsPutRefused self.old self.new) }
         ensures err { OnErr result ((writes later : Sequence Written) → HaveWrites schema.now self.old writes later → HaveWrites schema.now self.new writes later) }
+        ensures spared { OnOk result (7 * S / 8 ≤ spare_of S self.old.chains.region.usages → self.new.chains.counts ≡ self.old.chains.counts) }
         ensures seen { AllStillSee self.old.chains self.new.chains }
     {
         evictions_leave_the_use_of_a_chain();

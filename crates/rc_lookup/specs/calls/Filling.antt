@@ -1,6 +1,7 @@
 -- How what fragments say is filled, one after another.
 --     past, SaysUpTo    the place behind a fragment, and that writes say what it says up to there
 --     SaysAll           so of several, and nothing behind them
+--     IsFit, AllFit     the keys of fragments are within the limits
 --     IsFilledBy        what fills keep, and what they make known
 --     IsFilling         how far fragments are filled
 use Rattle.std.specs.Prelude.{◌≢◌, ◌≤◌, ⊤, List, [], ◌∷◌, Option, None}
@@ -8,6 +9,7 @@ use Rattle.rc_cell.specs.declared.writes.Tomb.{Tomb}
 use Rattle.rc_cell.specs.Winner.{empty_row}
 use Rattle.rc_position.specs.declared.positions.Pos.{Pos}
 use Rattle.rc_position.specs.Position.{row_pos}
+use Rattle.rc_rowcode.specs.Spelling.{KeyFits}
 use Rattle.rc_mutation.specs.declared.fragments.Frag.{Frag}
 use Rattle.rc_mutation.specs.declared.fragments.Frag.TheVariants as frag
 use Rattle.rc_mutation.specs.declared.mutations.Mutation.{Mutation}
@@ -57,6 +59,19 @@ IsWritten frag.End = ⊤
 abbrev pub AllWritten : List Frag → Type 0
 AllWritten [] = ⊤
 AllWritten (f ∷ fs) = IsWritten f × AllWritten fs
+
+-- the key of a row is within the limits, and so is that at which a change stands
+abbrev pub IsFit : Frag → Type 0
+IsFit (frag.Start pt) = ⊤
+IsFit (frag.Static row) = ⊤
+IsFit (frag.Row key row) = KeyFits key
+IsFit (frag.Change from tomb) = KeyFits from.prefix
+IsFit frag.End = ⊤
+
+-- so of each of several
+abbrev pub AllFit : List Frag → Type 0
+AllFit [] = ⊤
+AllFit (f ∷ fs) = IsFit f × AllFit fs
 
 -- one fill
 abbrev pub OneFill : {P H : Type 0} → OfFiller P H → P × H → P × H → Type 0

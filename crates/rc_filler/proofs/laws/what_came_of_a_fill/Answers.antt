@@ -1,3 +1,4 @@
+use Rattle.rc_filler.proofs.Crowding.{came-loses}
 use Rattle.rc_filler.proofs.Coming.{came-answers, came-done, came-keeps, came-known, came-may, came-stands, came-there}
 use Rattle.rc_filler.proofs.Filling.{FillLaws}
 use Rattle.rc_filler.proofs.laws.what_came_of_a_fill.Goals as goal
@@ -34,4 +35,5 @@ returns c =
       may = came-may room.there room.may room.stands laws;
       there = came-there room.there room.may room.stands laws;
       done = came-done;
+      loses = came-loses;
     }

@@ -9,6 +9,7 @@ use Rattle.rc_row_cache.specs.Saying.{Below, CacheSays, phase_pinned}
 use Rattle.rc_schema.specs.SchemaValue.{SchemaValue}
 use Rattle.std.specs.Prelude.{◌≡◌, ℕ, List, None, OnErr, Option, IfNone, IsSomeAnd}
 use Rattle.rc_memory.specs.Memory.{KeptChain, Member, Memory, chain_at}
+use Rattle.rc_row_cache.specs.Crowding.{LosesWhereCrowded}
 use Rattle.rc_row_cache.specs.Found.{entry_number}
 use Rattle.rc_row_cache.specs.Footprint.{HaveOneVersion, memtable_bytes}
 use Rattle.rc_lookup.specs.Known.{IsChainKnown, IsPartitionKnown, IsSnapKnown}
@@ -16,6 +17,7 @@ use Rattle.rc_lookup.specs.Rest.{LeavesRest}
 use Rattle.rc_lookup.specs.Looked.{IsPartitionFound, IsLookedUp, IsStreamSaying, IsUnread}
 use Rattle.rc_lookup.specs.calls.Reading.{without_snap}
 use Rattle.rc_lookup.specs.Touched.{IsMadeRecent}
+use Rattle.rc_lookup.proofs.Losing.{looked-loses, told-loses}
 use Rattle.rc_lookup.proofs.Reordered.{entries-reordered, if-err, if-missed, looked-reordered, none-unread, rest-reordered}
 use Rattle.rc_lookup.proofs.Rest.{rest-looked, rest-then, rest-told}
 use Rattle.rc_lookup.proofs.Kept.{back-used, chain-known, found, is-some, none-there, same-number, snap-known, still, if-found, looked, same-source, told-found, told-looked, looked-none, unread}
@@ -213,3 +215,20 @@ returns-in-Err-clause-stays g c = λ q id e on.
     let old = c.args.chains.now in
     let same = subst (λ r. OnErr r (c.snapshot.new.chains ≡ with_dropped [] old)) c.in-Err.is c.snapshot.ensures.err in
     (c.snapshot.ensures.forgotten.stays q id e (entry-there old id c.known.ensures.told on), still-same old c.snapshot.new.chains id (ap (λ (m : Memory). chain_at m id) same))
+
+pub returns-in-Ok-Some-clause-loses : goal.returns-in-Ok-Some-clause-loses
+returns-in-Ok-Some-clause-loses g c =
+    let s = c.in-Ok-Some.snap in
+    let taken : IsTakenOf c.args.key.now c.snapshot.new.self.entries (with_dropped [] c.args.chains.now) c.snapshot.new.chains c.in-Ok-Some.snap = subst (λ r. IfOk r (λ o. IfSome o (λ (x : Snap). IsTakenOf c.args.key.now c.snapshot.new.self.entries (with_dropped [] c.args.chains.now) c.snapshot.new.chains x))) (c.in-Ok-Some.is ∙ ap Ok c.in-Ok-Some.field-0-is) c.snapshot.ensures.taken in
+    looked-loses g.row.S c.args.chains.now c.snapshot.new.chains c.read_recent.new.chains s taken.taken c.read_recent.ensures.back
+
+pub returns-in-Ok-None-clause-loses : goal.returns-in-Ok-None-clause-loses
+returns-in-Ok-None-clause-loses g c =
+    let old = c.args.chains.now in
+    let absent = subst (λ r. IfOk r (λ o. IfNone o ((entry_number c.snapshot.new.self.entries c.args.key.now ≡ None) × (c.snapshot.new.chains ≡ with_dropped [] old)))) (c.in-Ok-None.is ∙ ap Ok c.in-Ok-None.field-0-is) c.snapshot.ensures.absent in
+    subst (LosesWhereCrowded g.row.S 0 old) (sym absent.1) (told-loses g.row.S old)
+
+pub returns-in-Err-clause-loses : goal.returns-in-Err-clause-loses
+returns-in-Err-clause-loses g c =
+    let old = c.args.chains.now in
+    subst (LosesWhereCrowded g.row.S 0 old) (sym (subst (λ r. OnErr r (c.snapshot.new.chains ≡ with_dropped [] old)) c.in-Err.is c.snapshot.ensures.err)) (told-loses g.row.S old)

@@ -13,6 +13,7 @@ use Rattle.rc_cached.specs.Filling.{MayFill, given}
 use Rattle.rc_stream.specs.Stream.{Stream}
 use Rattle.rc_stream.specs.Snapshot.{NoneLost}
 use Rattle.rc_row_cache.specs.Found.{entry_number}
+use Rattle.rc_row_cache.specs.Crowds.{loses-before}
 use Rattle.rc_row_cache.specs.Fillers.{losses}
 use Rattle.rc_row_cache.specs.Calls.{IsEnterRefused, IsEntered, IsKeptOut, below_entry}
 use Rattle.rc_row_cache.specs.Saying.{CacheSays, phase_pinned}
@@ -304,3 +305,14 @@ returns-in-Ok-None-clause-stays g c = λ none.
     let es = c.enter.new.self.entries in
     let out : IsKeptOut S old mid = (subst (λ r. IfOk r (λ o. IfNone o ((entry_number es key ≡ None) × IsKeptOut S old mid))) (c.in-Ok-None.is ∙ ap Ok c.in-Ok-None.field-0-is) c.enter.ensures.kept_out).1 in
     absurd (kept-out-lost S old mid c.counts_in_range.ensures out none)
+
+-- ---- what is lost
+
+pub returns-in-Ok-Some-clause-loses : goal.returns-in-Ok-Some-clause-loses
+returns-in-Ok-Some-clause-loses g c = let over = c.requires.over in loses-before g.row.S 1 c.args.chains.now c.enter.new.chains c.fill_entry.new.chains c.enter.ensures.loses (c.fill_entry.ensures.loses over.0 over.2.limits over.3)
+
+pub returns-in-Ok-None-clause-loses : goal.returns-in-Ok-None-clause-loses
+returns-in-Ok-None-clause-loses g c = c.enter.ensures.loses
+
+pub returns-in-Err-clause-loses : goal.returns-in-Err-clause-loses
+returns-in-Err-clause-loses g c = c.enter.ensures.loses

@@ -10,6 +10,7 @@ use Rattle.rc_stream.specs.Snapshot.{NoneLost}
 use Rattle.rc_cursor.specs.Snapshots.{Knows}
 use Rattle.rc_cacheread.specs.Passing.{IsKnownOver}
 use Rattle.rc_row_cache.specs.Entries.{LeavesCached}
+use Rattle.rc_row_cache.specs.Crowds.{loses-after}
 use Rattle.rc_row_cache.specs.Fillers.{losses}
 use Rattle.rc_cached.specs.Stands.{HasCacheSnapshot}
 use Rattle.rc_snapshots.specs.Streams.{first_position}
@@ -19,6 +20,7 @@ use Rattle.rc_lookup.specs.calls.Entering.{KnowsStaticRow}
 use Rattle.rc_lookup.specs.calls.Reading.{without_snap}
 use Rattle.rc_lookup.proofs.Gathered.{on-also}
 use Rattle.rc_lookup.proofs.Kept.{has-pin}
+use Rattle.rc_lookup.proofs.Losing.{swept-loses}
 use Rattle.rc_lookup.proofs.Swept.{IsSweptThen, SweepLaws, back-there, but-then, known-swept, rest-swept, swept-beside, swept-lost, swept-then}
 use Rattle.rc_lookup.proofs.populating.fill_entry.Goals as goal
 
@@ -150,3 +152,19 @@ returns-clause-known g c =
     (λ k may none statics listed.
     let unlost : NoneLost (losses old) (losses x) = subst (NoneLost (losses old)) (swept-lost s x new h.chain h.there h.cached swept) none in
     known-swept s x new h swept (c.fill_read-filled.ensures.may may) (through.statics unlost statics) (k may unlost) 0 (Some end_position) (through.listed unlost (member s.chain 0 (Some end_position)) listed))
+
+pub returns-clause-loses : goal.returns-clause-loses
+returns-clause-loses g c = λ schema limits fits.
+    let S = g.row.S in
+    let s = c.args.snap in
+    let old = c.args.chains.now in
+    let x = c.fill_read-filled.new.chains in
+    let new = c.sweep.new.self in
+    let through = c.fill_read-filled.ensures.through in
+    let h : HasCacheSnapshot x s.chain s.pin = (c.each_snapshot_pins_what_it_pinned.ensures.filled (λ _. []) s.chain s.pin S s.chain s.pin old x through.done c.requires.stands.1.snapshot).0 in
+    let back : c.release.new.self ≡ without_snap s x = c.release.ensures in
+    let swept : IsSweptThen s x new h.chain h.there h.cached = swept-then s x new h.chain h.there h.cached
+    (subst (λ (y : Memory). (k : KeptChain) → chain_at y s.chain ≡ Some k → IsIdle y s.chain k.chain → IsChainDropped s.chain y.recency y new) back c.sweep.ensures.dropped)
+    (subst (λ (y : Memory). (k : KeptChain) → chain_at y s.chain ≡ Some k → (IsIdle y s.chain k.chain → ⊥) → new ≡ y) back c.sweep.ensures.kept) in
+    loses-after S 0 old x new (c.fill_read-filled.ensures.loses schema limits fits)
+    (swept-loses c.a_chain_that_is_dropped_had_its_ends_alone.ensures S s x c.release.new.self new h.chain h.there h.cached back swept c.known-2.ensures.rule c.known-2.ensures.versions c.known-2.ensures.live c.known-3.ensures.live)

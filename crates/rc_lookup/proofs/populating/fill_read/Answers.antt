@@ -1,5 +1,5 @@
 -- The fragments are what writes say that say the same, and the filler is that of the snapshot.
-use Rattle.std.proofs.Common.{◌≡◌, List, None, sym, ap, ◌∙◌, subst}
+use Rattle.std.proofs.Common.{◌≡◌, List, None, sym, ap, ◌∙◌, subst, arith}
 use Rattle.std.specs.Prelude.{IfOk}
 use Rattle.rc_mutation.specs.declared.fragments.Frag.{Frag}
 use Rattle.rc_mutation.specs.Fragments.{fragments, rows_and_changes}
@@ -11,40 +11,45 @@ use Rattle.rc_stream.specs.Snapshot.{NoneLost}
 use Rattle.rc_cursor.specs.Snapshots.{IsKnownAs, Knows, kind_in, versions_in}
 use Rattle.rc_cacheread.specs.Passing.{IsKnownOver}
 use Rattle.rc_row_cache.specs.Fillers.{FillerKnows, losses}
-use Rattle.rc_cached.specs.Stands.{StandsForWrites}
+use Rattle.rc_cached.specs.Stands.{HasCacheSnapshot, StandsForWrites}
 use Rattle.rc_snapshots.specs.Streams.{first_position}
-use Rattle.rc_lookup.specs.calls.Filling.{AllWritten, SaysAll}
+use Rattle.rc_row_cache.specs.Crowds.{loses-nothing}
+use Rattle.rc_lookup.specs.calls.Filling.{AllFit, AllWritten, SaysAll}
+use Rattle.rc_lookup.proofs.Limits.{all-fit}
 use Rattle.rc_lookup.proofs.Gathered.{on-also}
 use Rattle.rc_lookup.proofs.Said.{all-written, says-all}
 use Rattle.rc_lookup.proofs.Turns.{FillLaws, IsFillerOf, at-filler, at-snapshot, filled-through, still-filler}
 use Rattle.rc_lookup.proofs.populating.fill_read.Goals as goal
 
-pub fill_all-requires-clause-written : goal.fill_all-requires-clause-written
-fill_all-requires-clause-written g c =
-    let m = c.args.read.now in
-    let is = c.holds_together.ensures in
-    let left : (stream_of (fragments m)).left ≡ rows_and_changes m = ap (λ (t : Stream). t.left) (c.the_stream_of_a_mutation.ensures.fragments m is) in
-    let reads = c.a_mutations_stream_reads_it.ensures.reads c.requires.fits.0 m is c.requires.fits.1 in
-    let list : c.as_slice.result.now ≡ fragments m = c.as_slice.ensures ∙ subst (λ r. IfOk r (λ (l : List Frag). l ≡ fragments m)) c.in-Ok.is c.fragments.ensures in
-    subst AllWritten (sym list) (all-written m left reads)
-
-pub fill_all-requires-clause-source : goal.fill_all-requires-clause-source
-fill_all-requires-clause-source g c =
+pub fill_all-requires : goal.fill_all-requires
+fill_all-requires g c =
+    let S = g.row.S in
     let m = c.args.read.now in
     let is = c.holds_together.ensures in
     let left : (stream_of (fragments m)).left ≡ rows_and_changes m = ap (λ (t : Stream). t.left) (c.the_stream_of_a_mutation.ensures.fragments m is) in
     let reads = c.a_mutations_stream_reads_it.ensures.reads c.requires.fits.0 m is c.requires.fits.1 in
     let list : c.as_slice.result.now ≡ fragments m = c.as_slice.ensures ∙ subst (λ r. IfOk r (λ (l : List Frag). l ≡ fragments m)) c.in-Ok.is c.fragments.ensures in
     let writes = c.requires.stands.0 in
-    let of : IsFillerOf g.row.S c.args.snap.now c.of-filler.result = (c.of-filler.ensures.chain, c.of-filler.ensures.pin) in
-    (writes, at-filler g.row.S (λ id pin. StandsForWrites g.row.S c.args.chains.now id pin writes) c.args.snap.now c.of-filler.result of c.requires.stands.1, subst (SaysAll writes first_position None) (sym list) (says-all m left reads writes c.requires.stands.2))
+    let s = c.args.snap.now in
+    let f = c.of-filler.result in
+    let old = c.args.chains.now in
+    let of : IsFillerOf S s f = (c.of-filler.ensures.chain, c.of-filler.ensures.pin) in (
+      omega arith,
+      (
+        record { snapshot = at-filler S (λ id pin. HasCacheSnapshot old id pin) s f of c.requires.stands.1.snapshot; roomy = c.requires.roomy },
+        (
+          subst AllWritten (sym list) (all-written m left reads),
+          (writes, at-filler S (λ id pin. StandsForWrites S old id pin writes) s f of c.requires.stands.1, subst (SaysAll writes first_position None) (sym list) (says-all m left reads writes c.requires.stands.2)),
+        ),
+      ),
+    )
 
 pub returns-in-Ok-clause-through : goal.returns-in-Ok-clause-through
 returns-in-Ok-clause-through g c =
     let S = g.row.S in
     let s = c.args.snap.now in
     let f = c.of-filler.result in
-    let h = c.fill_all.new.filler in
+    let h = c.of-filler.result in
     let old = c.args.chains.now in
     let new = c.fill_all.new.home in
     let of : IsFillerOf S s f = (c.of-filler.ensures.chain, c.of-filler.ensures.pin) in
@@ -68,7 +73,7 @@ returns-in-Ok-clause-may g c = λ may.
     let S = g.row.S in
     let s = c.args.snap.now in
     let f = c.of-filler.result in
-    let h = c.fill_all.new.filler in
+    let h = c.of-filler.result in
     let old = c.args.chains.now in
     let new = c.fill_all.new.home in
     let of : IsFillerOf S s f = (c.of-filler.ensures.chain, c.of-filler.ensures.pin) in
@@ -86,7 +91,7 @@ returns-in-Ok-clause-stands g c = λ writes stands same.
     let S = g.row.S in
     let s = c.args.snap.now in
     let f = c.of-filler.result in
-    let h = c.fill_all.new.filler in
+    let h = c.of-filler.result in
     let old = c.args.chains.now in
     let new = c.fill_all.new.home in
     let of : IsFillerOf S s f = (c.of-filler.ensures.chain, c.of-filler.ensures.pin) in
@@ -100,7 +105,7 @@ returns-in-Ok-clause-known g c =
     let S = g.row.S in
     let s = c.args.snap.now in
     let f = c.of-filler.result in
-    let h = c.fill_all.new.filler in
+    let h = c.of-filler.result in
     let old = c.args.chains.now in
     let new = c.fill_all.new.home in
     let of : IsFillerOf S s f = (c.of-filler.ensures.chain, c.of-filler.ensures.pin) in
@@ -110,3 +115,12 @@ returns-in-Ok-clause-known g c =
     (MayFill old s.chain s.pin → NoneLost (losses old) (losses new) → IsKnownOver (Knows new s) first_position end_position)
     c.fill_all.result c.fill_all.ensures.known
     (λ k may none. at-snapshot S (λ id pin. IsKnownOver (IsKnownAs (kind_in (chain_at new id)) (versions_in (chain_at new id) pin)) first_position end_position) s h still (k (at-filler S (MayFill old) s f of may) none))
+
+pub returns-in-Ok-clause-loses : goal.returns-in-Ok-clause-loses
+returns-in-Ok-clause-loses g c = λ schema limits fits.
+    let m = c.args.read.now in
+    let list : c.as_slice.result.now ≡ fragments m = c.as_slice.ensures ∙ subst (λ r. IfOk r (λ (l : List Frag). l ≡ fragments m)) c.in-Ok.is c.fragments.ensures in
+    c.fill_all.ensures.loses (subst AllFit (sym list) (all-fit schema m c.holds_together.ensures limits fits))
+
+pub returns-in-Err-clause-loses : goal.returns-in-Err-clause-loses
+returns-in-Err-clause-loses g c = λ schema limits fits. loses-nothing g.row.S c.args.chains.now

@@ -1,7 +1,10 @@
 -- The chain of the entry is detached, where it is there.
 use Rattle.std.proofs.Common.{sym, ap, ◌∙◌, subst}
 use Rattle.rc_row_cache.specs.Found.{entry_number}
+use Rattle.rc_row_cache.specs.Crowding.{LosesWhereCrowded}
+use Rattle.rc_row_cache.specs.Crowds.{loses-nothing}
 use Rattle.rc_lookup.specs.Rest.{LeavesRest}
+use Rattle.rc_lookup.proofs.Losing.{detached-loses}
 use Rattle.rc_lookup.proofs.Leaving.{FoundBeside, entry-cached, none-left, others-were}
 use Rattle.rc_lookup.proofs.Numbered.{there-or-not}
 use Rattle.rc_lookup.proofs.Rest.{rest-detached, rest-none}
@@ -44,3 +47,10 @@ returns-clause-stays g c =
     let b = c.forget.new.self.entries in
     entry-beside key a b c.args.chains.now c.forget.new.chains c.requires.entries (c.forget.ensures.entries c.requires.entries)
     (none-left key a b found) (others-were key a b found) (λ none. (c.forget.ensures.none none).1) c.forget.ensures.detached
+
+pub returns-clause-loses : goal.returns-clause-loses
+returns-clause-loses g c =
+    let old = c.args.chains.now in
+    there-or-not (entry_number c.args.cache.now.entries c.args.key.now)
+    (λ none. subst (LosesWhereCrowded g.row.S 0 old) (sym (c.forget.ensures.none none).1) (loses-nothing g.row.S old))
+    (λ id e. detached-loses g.row.S id old c.forget.new.chains c.known.ensures.live c.known-2.ensures.live (c.forget.ensures.detached id e))

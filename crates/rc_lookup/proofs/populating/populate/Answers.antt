@@ -2,6 +2,7 @@
 use Rattle.std.proofs.Common.{◌≡◌, ◌≤◌, ℕ, List, arith}
 use Rattle.std.specs.Prelude.{IsSomeAnd}
 use Rattle.rc_stream.specs.Snapshot.{NoneLost}
+use Rattle.rc_row_cache.specs.Crowds.{loses-after}
 use Rattle.rc_row_cache.specs.Found.{entry_number}
 use Rattle.rc_row_cache.specs.Fillers.{losses}
 use Rattle.rc_lookup.specs.Known.{IsChainKnown}
@@ -72,3 +73,6 @@ returns-clause-stays g c =
     let less : losses old ≤ losses mid = omega (arith, before.evicted, before.skipped) in
     let more : losses mid ≤ losses new = omega (arith, since.evicted, since.skipped) in
     entry-then q a b d old mid new (c.forget_entry.ensures.stays q ne) (k (between (losses old) (losses mid) (losses new) less more none).1 q ne))
+
+pub returns-clause-loses : goal.returns-clause-loses
+returns-clause-loses g c = loses-after g.row.S 1 c.args.chains.now c.forget_entry.new.chains c.enter_read.new.chains c.forget_entry.ensures.loses c.enter_read.ensures.loses

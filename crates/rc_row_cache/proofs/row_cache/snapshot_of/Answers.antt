@@ -2,6 +2,9 @@ use Rattle.std.proofs.Common.{sym, ap, ◌∙◌, subst, arith}
 use Rattle.std.specs.Prelude.{◌≡◌, IsSomeAnd, Some, true}
 use Rattle.rc_memory.specs.Memory.{IsSnapshotTaken, KeptChain, Memory, chain_at}
 use Rattle.rc_entries.specs.Entries.{AreEntries, AreSettled, IsCached}
+use Rattle.rc_filler.specs.Crowding.{LosesWhereCrowded}
+use Rattle.rc_filler.specs.Crowds.{loses-nothing}
+use Rattle.rc_row_cache.specs.laws.Losing.{loses-taken}
 use Rattle.rc_row_cache.proofs.Cache.{pins-same}
 use Rattle.rc_row_cache.proofs.Snapshots.{SnapshotLaws}
 use Rattle.rc_row_cache.proofs.Taking.{attached-at, same-lost, sound-at, taken-lost, taken-may, taken-of}
@@ -99,3 +102,9 @@ returns-in-Err-clause-pins g c = λ below id pin. pins-same below id pin c.args.
 
 pub returns-in-Err-clause-seen : goal.returns-in-Err-clause-seen
 returns-in-Err-clause-seen g c = same-lost c.args.chains.now c.snapshot.new.self (λ id. ap (λ (m : Memory). chain_at m id) c.in-Err.ensures.err)
+
+pub returns-in-Ok-clause-loses : goal.returns-in-Ok-clause-loses
+returns-in-Ok-clause-loses g c = let t = c.in-Ok.ensures.taken in loses-taken g.row.S c.args.id c.in-Ok.snap.pin c.in-Ok.snap.phase c.args.chains.now c.snapshot.new.self t.1
+
+pub returns-in-Err-clause-loses : goal.returns-in-Err-clause-loses
+returns-in-Err-clause-loses g c = subst (LosesWhereCrowded g.row.S 0 c.args.chains.now) (sym c.in-Err.ensures.err) (loses-nothing g.row.S c.args.chains.now)

@@ -1,4 +1,6 @@
 -- The partition is an entry, whose chain is detached, or it is none.
+use Rattle.std.proofs.Common.{ap}
+use Rattle.rc_memory.specs.Memory.{Memory}
 use Rattle.rc_lookup.specs.Found.{entry_number}
 use Rattle.rc_shard.proofs.Forgotten.{DetachLaws, forgets-absent, forgets-entry, number-or-none, written-absent, written-entry}
 use Rattle.rc_shard.proofs.forgetting.forget_one.Goals as goal
@@ -21,3 +23,6 @@ returns-clause-keeps c =
     (λ none. written-absent c.args.unstored.now c.forget.new.chains (c.forget.ensures.none none).1)
     (λ id e. written-entry laws c.args.part.now c.args.cache.now.entries id c.args.unstored.now c.forget.new.chains known.sound known.told e (c.forget.ensures.detached id e) c.requires.are c.forget.ensures.seen
     (λ schema writes later. c.what_leaves_the_chains_of_both_leaves_their_writes.ensures.beside 131072 schema c.args.unstored.now c.forget.new.chains writes later))
+
+pub returns-clause-counts : goal.returns-clause-counts
+returns-clause-counts c = number-or-none _ (entry_number c.args.cache.now.entries c.args.part.now.key) (λ none. ap (λ (m : Memory). m.counts) (c.forget.ensures.none none).1) (λ id e. c.what_is_let_go_counts_nothing.ensures.detached id c.args.unstored.now.chains c.forget.new.chains (c.forget.ensures.detached id e))

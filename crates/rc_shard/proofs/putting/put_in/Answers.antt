@@ -2,7 +2,9 @@
 use Rattle.std.proofs.Common.{◌≡◌, cond, ◌++◌, ◌∷◌, [], ap, ◌∙◌, subst}
 use Rattle.rc_memory.specs.declared.counts.Counts.{Counts}
 use Rattle.rc_lookup.specs.Memtables.{HaveWrites}
+use Rattle.rc_lookup.specs.Footprint.{LosesBeforeWrite}
 use Rattle.rc_shard.specs.calls.Storing.{IsKept}
+use Rattle.rc_shard.proofs.Losing.{write-crowds}
 use Rattle.rc_shard.proofs.Caching.{keeps-then}
 use Rattle.rc_shard.proofs.Numbered.{either}
 use Rattle.rc_shard.proofs.Standing.{on-err}
@@ -67,3 +69,14 @@ returns-clause-skips c =
     either (v.chains.counts.skipped ≡ u.chains.counts.skipped) c.in_ok-done.done
     (λ done. let p = c.in_ok-done.ensures.applied done in ap (λ (n : Counts). n.skipped) p.applied.others.counts ∙ p.room.skipped)
     (λ full. (c.in_ok-done.ensures.left full).room.skipped)
+
+pub returns-clause-crowds : goal.returns-clause-crowds
+returns-clause-crowds c =
+    let u = c.args.unstored.now in
+    let v = c.put.new.self in
+    let had = c.requires.kept in
+    let law = c.a_write_evicts_where_memory_is_crowded.ensures in
+    write-crowds u.chains v.chains c.in_ok-done.ensures.spared
+    (either (LosesBeforeWrite 131072 u.chains v.chains) c.in_ok-done.done
+    (λ done. law.put 131072 c.args.schema.now c.args.w.now u v had.0 had.1 (c.in_ok-done.ensures.applied done) c.known.ensures.rule had.2)
+    (λ full. law.not_put 131072 u v (c.in_ok-done.ensures.left full) c.known.ensures.rule c.known-2.ensures.live))

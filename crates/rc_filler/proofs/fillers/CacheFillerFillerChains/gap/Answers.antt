@@ -1,26 +1,25 @@
 use Rattle.std.proofs.Common.{refl}
 use Rattle.rc_filler.specs.Fills.{OfGap}
-use Rattle.rc_filler.proofs.Coming.{came-named}
 use Rattle.rc_filler.proofs.fillers.CacheFillerFillerChains.gap.Goals as goal
 
 pub returns-clause-known : goal.returns-clause-known
-returns-clause-known g c = c.what_came_of_a_fill.ensures.known g.row.S c.args.self.now (OfGap c.args.from.now c.args.to.now c.args.tomb) c.take_gap-fill.result c.args.home.now c.take_gap-fill.new.chains c.requires.source.0 c.counts_in_range.ensures c.known.ensures.rule
-    (came-named g.row.S (OfGap c.args.from.now c.args.to.now c.args.tomb) c.take_gap-fill.result c.snap-snap.result.chain c.snap-snap.result.pin c.args.self.now.chain c.args.self.now.pin c.args.home.now c.take_gap-fill.new.chains c.snap-snap.ensures.chain c.snap-snap.ensures.pin c.take_gap-fill.ensures) c.requires.source.1 c.requires.source.2
+returns-clause-known g c = c.what_came_of_a_fill.ensures.known g.row.S c.args.self.now (OfGap c.args.from.now c.args.to.now c.args.tomb) c.take_gap.result c.args.home.now c.take_gap.new.home c.requires.source.0 c.counts_in_range.ensures c.known.ensures.rule
+    c.take_gap.ensures.came c.requires.source.1 c.requires.source.2
 
 pub returns-clause-keeps : goal.returns-clause-keeps
-returns-clause-keeps g c = c.what_came_of_a_fill.ensures.keeps g.row.S c.args.self.now (OfGap c.args.from.now c.args.to.now c.args.tomb) c.take_gap-fill.result c.args.home.now c.take_gap-fill.new.chains c.requires.source.0 c.counts_in_range.ensures c.known.ensures.rule
-    (came-named g.row.S (OfGap c.args.from.now c.args.to.now c.args.tomb) c.take_gap-fill.result c.snap-snap.result.chain c.snap-snap.result.pin c.args.self.now.chain c.args.self.now.pin c.args.home.now c.take_gap-fill.new.chains c.snap-snap.ensures.chain c.snap-snap.ensures.pin c.take_gap-fill.ensures) c.requires.source.1 c.requires.source.2
+returns-clause-keeps g c = c.what_came_of_a_fill.ensures.keeps g.row.S c.args.self.now (OfGap c.args.from.now c.args.to.now c.args.tomb) c.take_gap.result c.args.home.now c.take_gap.new.home c.requires.source.0 c.counts_in_range.ensures c.known.ensures.rule
+    c.take_gap.ensures.came c.requires.source.1 c.requires.source.2
 
 pub returns-clause-stands : goal.returns-clause-stands
-returns-clause-stands g c = λ writes stood said. c.what_came_of_a_fill.ensures.stands g.row.S c.args.self.now (OfGap c.args.from.now c.args.to.now c.args.tomb) c.take_gap-fill.result c.args.home.now c.take_gap-fill.new.chains writes c.known.ensures.rule
-    (came-named g.row.S (OfGap c.args.from.now c.args.to.now c.args.tomb) c.take_gap-fill.result c.snap-snap.result.chain c.snap-snap.result.pin c.args.self.now.chain c.args.self.now.pin c.args.home.now c.take_gap-fill.new.chains c.snap-snap.ensures.chain c.snap-snap.ensures.pin c.take_gap-fill.ensures) stood said
+returns-clause-stands g c = λ writes stood said. c.what_came_of_a_fill.ensures.stands g.row.S c.args.self.now (OfGap c.args.from.now c.args.to.now c.args.tomb) c.take_gap.result c.args.home.now c.take_gap.new.home writes c.known.ensures.rule
+    c.take_gap.ensures.came stood said
 
 pub returns-clause-sound : goal.returns-clause-sound
-returns-clause-sound g c = λ writes stands. c.what_came_of_a_fill.ensures.sound g.row.S c.take_gap-fill.new.chains c.args.self.now writes stands
+returns-clause-sound g c = λ writes stands. c.what_came_of_a_fill.ensures.sound g.row.S c.take_gap.new.home c.args.self.now writes stands
 
 pub returns-clause-did : goal.returns-clause-did
 returns-clause-did g c = record {
   same = refl;
-  done = c.what_came_of_a_fill.ensures.done g.row.S c.args.self.now.chain c.args.self.now.pin (OfGap c.args.from.now c.args.to.now c.args.tomb) c.take_gap-fill.result c.args.home.now c.take_gap-fill.new.chains
-      (came-named g.row.S (OfGap c.args.from.now c.args.to.now c.args.tomb) c.take_gap-fill.result c.snap-snap.result.chain c.snap-snap.result.pin c.args.self.now.chain c.args.self.now.pin c.args.home.now c.take_gap-fill.new.chains c.snap-snap.ensures.chain c.snap-snap.ensures.pin c.take_gap-fill.ensures);
+  done = c.what_came_of_a_fill.ensures.done g.row.S c.args.self.now.chain c.args.self.now.pin (OfGap c.args.from.now c.args.to.now c.args.tomb) c.take_gap.result c.args.home.now c.take_gap.new.home
+      c.take_gap.ensures.came;
 }

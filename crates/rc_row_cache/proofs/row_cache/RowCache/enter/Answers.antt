@@ -8,6 +8,8 @@ use Rattle.rc_entries.specs.Filling.{given}
 use Rattle.rc_snapshots.specs.laws.Seeing.{all-see}
 use Rattle.rc_row_cache.specs.Calls.{IsEnterRefused, IsEntered, below_entry}
 use Rattle.rc_row_cache.specs.Saying.{CacheSays}
+use Rattle.rc_filler.specs.Crowds.{loses-nothing}
+use Rattle.rc_row_cache.specs.laws.Losing.{loses-wider}
 use Rattle.rc_row_cache.proofs.Cache.{pins-same}
 use Rattle.rc_row_cache.proofs.Taking.{same-lost}
 use Rattle.rc_row_cache.proofs.row_cache.RowCache.enter.Goals as goal
@@ -65,3 +67,6 @@ returns-in-Err-clause-pins g c = λ below id pin. pins-same below id pin c.args.
 
 pub returns-in-Err-clause-seen : goal.returns-in-Err-clause-seen
 returns-in-Err-clause-seen g c = all-see c.args.chains.now c.args.chains.now (same-lost c.args.chains.now c.args.chains.now (λ id. refl))
+
+pub returns-in-Err-clause-loses : goal.returns-in-Err-clause-loses
+returns-in-Err-clause-loses g c = loses-wider g.row.S 1 c.args.chains.now c.args.chains.now (loses-nothing g.row.S c.args.chains.now)

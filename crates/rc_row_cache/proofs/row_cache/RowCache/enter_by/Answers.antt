@@ -1,14 +1,17 @@
-use Rattle.std.proofs.Common.{inr, ◌≡◌, ◌+◌, ◌≤◌, ◌/◌, ℕ, List, refl, sym, ap, ◌∙◌, subst, arith}
+use Rattle.std.proofs.Common.{inr, ◌≡◌, ◌+◌, ◌≤◌, ◌/◌, ℕ, [], List, refl, sym, ap, ◌∙◌, subst, arith}
 use Rattle.lsa_pool.specs.Room.{spare_of}
 use Rattle.rc_schema.specs.SchemaValue.{SchemaValue}
 use Rattle.rc_mutation.specs.declared.mutations.Mutation.{Mutation}
 use Rattle.rc_version.specs.Versions.{statics_bytes}
-use Rattle.rc_memory.specs.Memory.{Memory, chain_at, counts_raised}
+use Rattle.rc_memory.specs.Memory.{Memory, chain_at, counts_raised, raised_by, with_dropped}
 use Rattle.rc_entries.specs.Filling.{IsEntryOpened, given}
 use Rattle.rc_chain.specs.declared.chains.Snap.{Snap}
 use Rattle.rc_row_cache.specs.Calls.{IsEnterRefused, IsEntered, IsKeptOut, IsOpenRefused, IsTakenOf, below_entry}
 use Rattle.rc_row_cache.specs.Saying.{Below, CacheSays}
 use Rattle.rc_entries.specs.Found.{entry_number}
+use Rattle.rc_filler.specs.Crowding.{LosesWhereCrowded}
+use Rattle.rc_filler.specs.Crowds.{loses-after, loses-same}
+use Rattle.rc_row_cache.specs.laws.Losing.{loses-kept-out, loses-wider}
 use Rattle.rc_row_cache.proofs.Cache.{pins-same}
 use Rattle.rc_row_cache.proofs.Entering.{if-none, if-some, on-err, same-entries, same-settled, still-absent}
 use Rattle.rc_row_cache.proofs.Fills.{pins-then}
@@ -107,7 +110,7 @@ returns-in-NoRoom-clause-kept_out g c =
     let room = c.make_room-room.ensures.made in
     let absent = still-absent c.args.self.now.entries c.forget_dropped.new.self c.args.key.now (λ id e. (c.forget_dropped.ensures.forgotten.left c.args.key.now id e).0) c.requires.absent in
     let none = c.in-NoRoom.ensures.none refl in
-    (absent, (made, room, (none.0, none.1), c.count.ensures ∙ ap (counts_raised 0 1 0) c.forget_dropped.ensures.told))
+    (absent, (made, room, (none.0, none.1, none.3), c.count.ensures ∙ ap (counts_raised 0 1 0) c.forget_dropped.ensures.told))
 
 pub returns-in-NoRoom-clause-others : goal.returns-in-NoRoom-clause-others
 returns-in-NoRoom-clause-others g c = λ q id e ne. (c.forget_dropped.ensures.forgotten.left q id e).0
@@ -153,3 +156,20 @@ returns-in-NoRoom-clause-seen g c =
     let sees = c.a_snapshot_sees_what_it_saw.ensures in
     let seen_told = sees.along old made told (c.room_is_made_beside_what_memtables_see.ensures g.row.S old made c.known.ensures.rule room) (sees.all made told (same-lost made told (λ id. ap (λ (m : Memory). chain_at m id) c.forget_dropped.ensures.told))) in
     sees.along old told c.count.new.self seen_told (sees.all told c.count.new.self (same-lost told c.count.new.self (λ id. ap (λ (m : Memory). chain_at m id) c.count.ensures)))
+
+pub returns-in-Room-clause-loses : goal.returns-in-Room-clause-loses
+returns-in-Room-clause-loses g c =
+    let old = c.args.chains.now in
+    let made = c.make_room-room.new.chains in
+    let told = c.forget_dropped.new.chains in
+    loses-after g.row.S 1 old told c.open.new.chains (subst (LosesWhereCrowded g.row.S 0 old) (sym c.forget_dropped.ensures.told) (loses-after g.row.S 0 old made (with_dropped [] made) c.make_room-room.ensures.made.loses (loses-same g.row.S made (with_dropped [] made) refl refl refl refl)))
+    c.open.ensures.loses
+
+pub returns-in-NoRoom-clause-loses : goal.returns-in-NoRoom-clause-loses
+returns-in-NoRoom-clause-loses g c =
+    let old = c.args.chains.now in
+    let made = c.make_room-room.new.chains in
+    let room = c.make_room-room.ensures.made in
+    let none = c.in-NoRoom.ensures.none refl in
+    let low : raised_by 0 made.counts.shrunk ≡ made.counts.shrunk = subst (λ n. raised_by 0 n ≡ n) (sym room.shrunk) c.counts_in_range.ensures in
+    loses-wider g.row.S 1 old c.count.new.self (loses-after g.row.S 0 old made c.count.new.self room.loses (loses-kept-out g.row.S made c.count.new.self low none.3 (c.count.ensures ∙ ap (counts_raised 0 1 0) c.forget_dropped.ensures.told)))

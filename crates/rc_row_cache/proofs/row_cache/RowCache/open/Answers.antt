@@ -7,6 +7,8 @@ use Rattle.rc_entries.specs.Filling.{IsEntryOpened, MayFill, given}
 use Rattle.rc_snapshots.specs.laws.Seeing.{lost-then}
 use Rattle.rc_row_cache.specs.Calls.{IsOpenRefused, IsTakenOf, below_entry}
 use Rattle.rc_row_cache.specs.Saying.{CacheSays, with_below}
+use Rattle.rc_filler.specs.Crowds.{loses-before}
+use Rattle.rc_row_cache.specs.laws.Losing.{loses-opened, loses-slots, loses-wider}
 use Rattle.rc_row_cache.proofs.Cache.{pins-same}
 use Rattle.rc_row_cache.proofs.Entering.{entered-may, entry-here, entry-other, if-some, number-same, on-err, opened-lost, opened-pinned, same-entries, same-settled}
 use Rattle.rc_row_cache.proofs.Fills.{pins-then}
@@ -69,3 +71,10 @@ returns-in-Err-clause-pins g c = λ below id pin. pins-same below id pin c.args.
 
 pub returns-in-Err-clause-seen : goal.returns-in-Err-clause-seen
 returns-in-Err-clause-seen g c = same-lost c.args.chains.now c.open.new.chains (λ id. ap (λ (m : Memory). chain_at m id) c.in-Err.ensures.err.same)
+
+pub returns-in-Ok-clause-loses : goal.returns-in-Ok-clause-loses
+returns-in-Ok-clause-loses g c = loses-before g.row.S 1 c.args.chains.now c.open.new.chains c.snapshot_of.new.chains
+    (loses-opened g.row.S c.in-Ok.id c.args.head.now.pt (given c.args.head.now.statics) c.args.phase c.args.chains.now c.open.new.chains c.known.ensures.live c.known-in-Ok.ensures.live c.in-Ok.ensures.opened) c.snapshot_of.ensures.loses
+
+pub returns-in-Err-clause-loses : goal.returns-in-Err-clause-loses
+returns-in-Err-clause-loses g c = loses-wider g.row.S 1 c.args.chains.now c.open.new.chains (loses-slots g.row.S c.args.chains.now c.open.new.chains c.in-Err.ensures.err)

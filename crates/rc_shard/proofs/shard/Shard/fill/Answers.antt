@@ -56,3 +56,9 @@ returns-in-Ok-clause-stays c =
     let k = c.args.self.now in
     let new : Shard = record k { cache = c.populate.new.cache; unstored = in_chains c.populate.new.chains k.unstored } in
     on-ok c.stream_read.result _ (filled-known k new c.args.key.now c.requires.stands.2.cached.are c.known.ensures.told (λ none. c.in-Ok.ensures.known none) (λ none q ne. c.in-Ok.ensures.stays none q ne))
+
+pub returns-in-Ok-clause-loses : goal.returns-in-Ok-clause-loses
+returns-in-Ok-clause-loses c = c.populate.ensures.loses
+
+pub returns-in-Err-clause-loses : goal.returns-in-Err-clause-loses
+returns-in-Err-clause-loses c = c.populate.ensures.loses

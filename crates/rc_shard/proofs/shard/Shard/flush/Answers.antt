@@ -1,5 +1,5 @@
 -- A flush is refused, or the writes are sealed and written.
-use Rattle.std.proofs.Common.{refl, ap, subst}
+use Rattle.std.proofs.Common.{refl, ap, ◌∙◌, subst}
 use Rattle.rc_machine.specs.State.{State}
 use Rattle.rc_machine.specs.Steps.{sealing}
 use Rattle.rc_shard.specs.declared.shard.Shard.{Shard}
@@ -8,6 +8,7 @@ use Rattle.rc_shard.specs.Knowing.{StaysKnown}
 use Rattle.rc_shard.specs.calls.Caching.{HasCache}
 use Rattle.rc_shard.proofs.Known.{flush-known, on-answered, sealed-other}
 use Rattle.rc_shard.proofs.Flushing.{not-true, sealed-for, stops-sealed, takes-no-flush, takes-written}
+use Rattle.rc_shard.proofs.Looking.{on-ok-weaker}
 use Rattle.rc_shard.proofs.Standing.{if-ok-weaker, on-err-weaker}
 use Rattle.rc_shard.proofs.shard.Shard.flush.Goals as goal
 use Rattle.rc_lookup.specs.RowCache.{RowCache}
@@ -76,3 +77,8 @@ returns-in-Some-clause-stays g c =
     (λ i key un. sealed-other k.folder.schema k.unstored c.seal.new.self s.have.sealed s.have.later t.have.sealed t.have.later i.parts key un.sealed un.active s.have.have
     (λ others h. c.seal.ensures.swapped k.folder.schema others h) (λ w ws others h. c.seal.ensures.kept k.folder.schema w ws others h) t.have.have (i.of_writes k.folder.schema t.have.sealed t.have.later t.have.have)) written)
     c.write_sealed.ensures.written
+
+-- ---- nothing is counted
+
+pub returns-in-Some-clause-same : goal.returns-in-Some-clause-same
+returns-in-Some-clause-same g c = on-ok-weaker c.write_sealed.result _ _ (λ same. same ∙ ap (λ (m : Memory). m.counts) c.seal.ensures.chains) c.write_sealed.ensures.same

@@ -37,3 +37,6 @@ returns-clause-beside c = record { rest = c.lookup.ensures.rest; keys = record {
 
 pub returns-clause-stays : goal.returns-clause-stays
 returns-clause-stays c = λ q whole. whole-still c.args.self.now (record c.args.self.now { cache = c.lookup.new.cache; unstored = in_chains c.lookup.new.chains c.args.self.now.unstored }) q c.requires.2.cached.are c.known.ensures.told (c.lookup.ensures.stays q) whole
+
+pub returns-clause-loses : goal.returns-clause-loses
+returns-clause-loses c = c.lookup.ensures.loses

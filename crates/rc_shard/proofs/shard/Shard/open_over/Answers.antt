@@ -3,6 +3,7 @@ use Rattle.std.proofs.Common.{◌≡◌, ℕ, List, ◌++◌, ◌∷◌, [], ref
 use Rattle.rc_lookup.specs.Found.{entry_number}
 use Rattle.rc_opened.specs.declared.opened.Opened.{Opened}
 use Rattle.rc_opened.specs.Opened.{snaps_of}
+use Rattle.rc_shard.proofs.Losing.{pinned-loses}
 use Rattle.rc_shard.specs.declared.shard.Shard.{Shard}
 use Rattle.rc_shard.proofs.Looking.{known-pinned, same-recency}
 use Rattle.rc_shard.proofs.Opening.{opens-reader}
@@ -51,3 +52,9 @@ returns-clause-recency c =
     let took = c.in_ok-opened.ensures.pins.exact in
     let snaps = snaps_of c.in_ok-opened.opened in
     (refl, same-recency took.0 c.open_in.new.unstored.chains snaps.active took.2 ∙ same-recency c.args.self.now.unstored.chains took.0 snaps.sealed took.1)
+
+pub returns-clause-loses : goal.returns-clause-loses
+returns-clause-loses c =
+    let took = c.in_ok-opened.ensures.pins.exact in
+    let snaps = snaps_of c.in_ok-opened.opened in
+    pinned-loses c.args.self.now.unstored.chains took.0 c.open_in.new.unstored.chains snaps.sealed snaps.active took.1 took.2

@@ -1,10 +1,12 @@
 -- A reader is opened, where its id is not open and fewer are than may be, and what the tables say is known or can be read.
-use Rattle.std.proofs.Common.{◌≡◌, ◌==◌, ◌<◌, ◌≤◌, ℕ, List, None, length, position, sym, ap, subst, arith}
+use Rattle.std.proofs.Common.{inl, refl, ◌≡◌, ◌==◌, ◌<◌, ◌≤◌, ℕ, List, None, length, position, sym, ap, subst, arith}
 use Rattle.rc_stream.specs.Stream.{Stream}
 use Rattle.rc_opened.specs.declared.opened.Opened.{Opened}
 use Rattle.rc_machine.specs.Steps.{most_readers}
+use Rattle.rc_lookup.specs.Crowds.{loses-before}
+use Rattle.rc_shard.proofs.Losing.{crowded-since}
 use Rattle.rc_shard.proofs.Counted.{counts-itself}
-use Rattle.rc_shard.proofs.Looking.{counts-behind, counts-used, lost-within, no-count}
+use Rattle.rc_shard.proofs.Looking.{counts-behind, counts-used, lost-within, no-count, on-ok, on-ok-weaker}
 use Rattle.rc_shard.specs.calls.Looking.{AreKnownStill, UnlessMemory}
 use Rattle.rc_shard.proofs.Known.{on-opened, on-unread}
 use Rattle.rc_shard.proofs.Pinned.{filled-opened, filled-unread, recent-opened, recent-unread, told-opened, told-unread}
@@ -129,3 +131,21 @@ returns-in-Ok-clause-recent g c = recent-opened c.args.id c.args.key.now c.args.
 
 pub returns-in-Err-clause-recent : goal.returns-in-Err-clause-recent
 returns-in-Err-clause-recent g c = recent-unread c.args.id c.args.key.now c.args.slice.now c.args.self.now c.tables_of.new.self c.in-Err.error c.not_read.result c.not_read.ensures
+
+-- ---- what is lost
+
+pub returns-then-is_some-clause-crowds : goal.returns-then-is_some-clause-crowds
+returns-then-is_some-clause-crowds g c = inl (refl, refl)
+
+pub returns-then-len-ge-MOST_READERS-clause-crowds : goal.returns-then-len-ge-MOST_READERS-clause-crowds
+returns-then-len-ge-MOST_READERS-clause-crowds g c = inl (refl, refl)
+
+pub returns-in-Ok-clause-crowds : goal.returns-in-Ok-clause-crowds
+returns-in-Ok-clause-crowds g c =
+    let old = c.args.self.now.unstored.chains in
+    let mid = c.tables_of.new.self.unstored.chains in
+    let new = c.open_over.new.self.unstored.chains in
+    on-ok-weaker c.open_over.result _ _ (λ l. crowded-since old new (loses-before 131072 1 old mid new c.tables_of.ensures.loses l)) c.open_over.ensures.loses
+
+pub returns-in-Err-clause-crowds : goal.returns-in-Err-clause-crowds
+returns-in-Err-clause-crowds g c = on-ok c.not_read.result _ (crowded-since c.args.self.now.unstored.chains c.tables_of.new.self.unstored.chains c.tables_of.ensures.loses)

@@ -53,3 +53,9 @@ returns-then-branch-clause-skips c = c.in_ok-put_in.ensures.skips
 
 pub returns-else-branch-clause-skips : goal.returns-else-branch-clause-skips
 returns-else-branch-clause-skips c = c.in_ok-put_in.ensures.skips
+
+pub returns-then-branch-clause-crowds : goal.returns-then-branch-clause-crowds
+returns-then-branch-clause-crowds c = c.in_ok-put_in.ensures.crowds
+
+pub returns-else-branch-clause-crowds : goal.returns-else-branch-clause-crowds
+returns-else-branch-clause-crowds c = c.in_ok-put_in.ensures.crowds

@@ -3,6 +3,8 @@ use Rattle.std.proofs.Common.{◌≡◌}
 use Rattle.rc_mutation.specs.Fragments.{fragments}
 use Rattle.rc_mutation.specs.declared.mutations.Mutation.{Mutation}
 use Rattle.rc_stream.specs.Stream.{Stream, stream_of}
+use Rattle.rc_lookup.specs.Crowds.{loses-nothing}
+use Rattle.rc_lookup.specs.Losing.{loses-wider}
 use Rattle.rc_shard.proofs.Filled.{cause-of, no-damage, read-cause, read-fits}
 use Rattle.std.specs.Prelude.{Err}
 use Rattle.rc_shard.specs.calls.Looking.{AreKnownStill}
@@ -58,3 +60,9 @@ returns-in-Ok-clause-stays g c = unless-ok c.fill.result _ c.fill.ensures.stays 
 
 pub returns-in-Err-clause-stays : goal.returns-in-Err-clause-stays
 returns-in-Err-clause-stays g c = unless-all {T = Stream} (Err c.in-Err.error) (AreKnownStill c.args.self.now c.args.self.now) (λ none q whole. whole)
+
+pub returns-in-Ok-clause-loses : goal.returns-in-Ok-clause-loses
+returns-in-Ok-clause-loses g c = c.fill.ensures.loses
+
+pub returns-in-Err-clause-loses : goal.returns-in-Err-clause-loses
+returns-in-Err-clause-loses g c = let m = c.args.self.now.unstored.chains in loses-wider 131072 1 m m (loses-nothing 131072 m)

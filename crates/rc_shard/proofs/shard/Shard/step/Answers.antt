@@ -1,5 +1,5 @@
 -- Each step is that of its command.
-use Rattle.std.proofs.Common.{◌+◌, ◌∙◌, ap, refl}
+use Rattle.std.proofs.Common.{◌+◌, ◌∙◌, ap, inl, refl}
 use Rattle.rc_shard.proofs.Standing.{on-err-weaker}
 use Rattle.rc_shard.specs.declared.shard.Shard.{Shard}
 use Rattle.rc_shard.proofs.Taking.{keeps-files, keeps-kept}
@@ -232,3 +232,34 @@ returns-in-Evict-clause-loses g c = rw (c.in-Evict.is) (none-skipped c.in-Evict.
 
 pub returns-in-Compact-clause-loses : goal.returns-in-Compact-clause-loses
 returns-in-Compact-clause-loses g c = (let same = c.compact.ensures.emptied.untouched.counts in rw (c.in-Compact.is) (ap (λ (n : Counts). n.evicted) same, ap (λ (n : Counts). n.skipped) same))
+
+-- where it is lost
+pub returns-in-Put-clause-crowds : goal.returns-in-Put-clause-crowds
+returns-in-Put-clause-crowds g c = rw (c.in-Put.is) c.put.ensures.crowds
+
+pub returns-in-Read-clause-crowds : goal.returns-in-Read-clause-crowds
+returns-in-Read-clause-crowds g c = rw (c.in-Read.is) (on-ok c.read.result _ tt)
+
+pub returns-in-Flush-clause-crowds : goal.returns-in-Flush-clause-crowds
+returns-in-Flush-clause-crowds g c = rw (c.in-Flush.is) (on-ok-weaker c.flush.result _ _ (λ same. inl (ap (λ (n : Counts). n.evicted) same, ap (λ (n : Counts). n.skipped) same)) c.flush.ensures.same)
+
+pub returns-in-OpenRead-clause-crowds : goal.returns-in-OpenRead-clause-crowds
+returns-in-OpenRead-clause-crowds g c = rw (c.in-OpenRead.is) c.open_read.ensures.crowds
+
+pub returns-in-Nothing-clause-crowds : goal.returns-in-Nothing-clause-crowds
+returns-in-Nothing-clause-crowds g c = rw (c.in-Nothing.is) tt
+
+pub returns-in-SetSchema-clause-crowds : goal.returns-in-SetSchema-clause-crowds
+returns-in-SetSchema-clause-crowds g c = rw (c.in-SetSchema.is) tt
+
+pub returns-in-Close-clause-crowds : goal.returns-in-Close-clause-crowds
+returns-in-Close-clause-crowds g c = rw (c.in-Close.is) tt
+
+pub returns-in-Evict-clause-crowds : goal.returns-in-Evict-clause-crowds
+returns-in-Evict-clause-crowds g c = rw (c.in-Evict.is) tt
+
+pub returns-in-Compact-clause-crowds : goal.returns-in-Compact-clause-crowds
+returns-in-Compact-clause-crowds g c = rw (c.in-Compact.is) tt
+
+pub returns-in-Stats-clause-crowds : goal.returns-in-Stats-clause-crowds
+returns-in-Stats-clause-crowds g c = rw (c.in-Stats.is) tt

@@ -3,6 +3,8 @@ use Rattle.std.proofs.Common.{◌+◌, ◌*◌, ◌≤◌, None, refl, ap, ◌�
 use Rattle.std.specs.Prelude.{IfErr, IfOk, IfSome, IsSome, Ok}
 use Rattle.rc_tables.specs.Tables.{IsDamageOf, listing}
 use Rattle.rc_folder.specs.Tabled.{Tabled}
+use Rattle.rc_lookup.specs.Crowds.{loses-after}
+use Rattle.rc_lookup.specs.Losing.{loses-wider}
 use Rattle.rc_shard.specs.Knowing.{IsCachedWhole, IsPartitionRecent}
 use Rattle.rc_shard.specs.calls.Looking.{AreKnownStill, IsTabled}
 use Rattle.rc_shard.proofs.Known.{unless-weaker}
@@ -65,3 +67,12 @@ returns-in-Ok-Some-clause-hit g c = λ whole. subst (λ r. IfOk r (λ o. IfSome 
 
 pub returns-in-Ok-None-clause-hit : goal.returns-in-Ok-None-clause-hit
 returns-in-Ok-None-clause-hit g c = on-ok c.read_tables.result _ (λ whole. absurd (none-some None refl (subst (λ r. IfOk r IsSome) (c.in-Ok-None.is ∙ ap Ok c.in-Ok-None.field-0-is) (c.look_up.ensures.known whole))))
+
+pub returns-in-Ok-Some-clause-loses : goal.returns-in-Ok-Some-clause-loses
+returns-in-Ok-Some-clause-loses g c = loses-wider 131072 1 c.args.self.now.unstored.chains c.look_up.new.self.unstored.chains c.look_up.ensures.loses
+
+pub returns-in-Ok-None-clause-loses : goal.returns-in-Ok-None-clause-loses
+returns-in-Ok-None-clause-loses g c = loses-after 131072 1 c.args.self.now.unstored.chains c.look_up.new.self.unstored.chains c.read_tables.new.self.unstored.chains c.look_up.ensures.loses c.read_tables.ensures.loses
+
+pub returns-in-Err-clause-loses : goal.returns-in-Err-clause-loses
+returns-in-Err-clause-loses g c = loses-wider 131072 1 c.args.self.now.unstored.chains c.look_up.new.self.unstored.chains c.look_up.ensures.loses

@@ -12,6 +12,7 @@ use Rattle.rc_lookup.specs.NoMore.{counts-then, no-more-then}
 use Rattle.rc_shard.specs.calls.Caching.{Forgets}
 use Rattle.rc_shard.proofs.Caching.{keeps-then}
 use Rattle.rc_shard.proofs.Forgotten.{forgets-behind}
+use Rattle.rc_shard.proofs.Looking.{on-ok}
 use Rattle.rc_shard.proofs.Standing.{if-ok-weaker, on-err, room-kept}
 use Rattle.rc_shard.proofs.shard.Shard.write_sealed.Goals as goal
 
@@ -91,3 +92,16 @@ returns-in-Ok-clause-counts g c = record {
 
 pub returns-clause-counts : goal.returns-clause-counts
 returns-clause-counts g c = record { answered = refl; segments = refl; asked = refl; none_fell = (c.what_a_call_leaves_of_the_room.ensures.before _ _ c.sealed_partitions.ensures.left).counts }
+
+-- nothing is counted
+pub returns-in-Ok-clause-same : goal.returns-in-Ok-clause-same
+returns-in-Ok-clause-same g c =
+    let h = c.requires.stands.1.have in
+    let schema = c.args.self.now.folder.schema in
+    let stands = c.sealed_partitions.ensures.stands schema h.sealed h.later h.have in
+    c.forget_all.ensures.counts
+    ∙ c.what_is_let_go_counts_nothing.ensures.let_go 131072 schema c.sealed_partitions.new.self c.drop_sealed.new.self.chains h.sealed h.later (subst DoAscend (sym c.sealed_partitions.ensures.keys.sealed) c.known.ensures) stands c.drop_sealed.ensures.let_go
+    ∙ c.sealed_partitions.ensures.left.counts
+
+pub returns-clause-same : goal.returns-clause-same
+returns-clause-same g c = on-ok c.not_written.result _ c.sealed_partitions.ensures.left.counts

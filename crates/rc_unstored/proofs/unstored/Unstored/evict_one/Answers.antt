@@ -1,5 +1,4 @@
-use Rattle.std.proofs.Common.{refl, sym, ap, ◌∙◌, subst}
-use Rattle.rc_unstored.specs.declared.unstored.Unstored.{Unstored}
+use Rattle.std.proofs.Common.{refl, sym, ap, ◌∙◌}
 use Rattle.rc_memory.specs.Memory.{Memory}
 use Rattle.rc_unstored.proofs.Evicting.{EvictLaws, evict-none, evict-seen, evict-some, evict-stands, evict-takes-no-more}
 use Rattle.rc_unstored.proofs.Keeping.{same-keys}

@@ -1,4 +1,4 @@
-use Rattle.std.proofs.Common.{◌<◌, ◌-◌, ◌*◌, ◌/◌, length, sym, ap, refl, subst, arith}
+use Rattle.std.proofs.Common.{◌∙◌, ◌<◌, ◌-◌, ◌*◌, ◌/◌, length, sym, ap, refl, subst, arith}
 use Rattle.lsa_move.specs.Room.{Tight}
 use Rattle.lsa_pool.specs.Room.{spare_of}
 use Rattle.lsa_region.specs.Region.{View, live_bytes}
@@ -28,7 +28,7 @@ returns-in-NoRoom-clause-full g c e =
     let r = c.requires.kept in
     full-for g.row.S c.args.schema.now c.args.w.now (both_in g.row.S c.make_room.new.chains c.args.self.now.sealed c.args.self.now.active) c.args.self.now.chains c.need-need.result
     (made-beside c.evictions_spare_memtables_and_readers.ensures.memtable g.row.S c.args.self.now.chains c.make_room.new.chains c.known.ensures.rule c.make_room.ensures.made c.args.schema.now c.args.self.now.active r.1 r.2.active c.args.w.now.key)
-    c.need-need.ensures.least (c.make_room.ensures.none c.in-NoRoom.is)
+    c.need-need.ensures.least (let none = c.make_room.ensures.none c.in-NoRoom.is in (none.0, none.1, none.2))
 
 pub returns-in_ok-apply-in-Room-clause-stands : goal.returns-in_ok-apply-in-Room-clause-stands
 returns-in_ok-apply-in-Room-clause-stands g c writes later h =
@@ -85,3 +85,14 @@ a_tight_region_is_nearly_full-requires g c =
 
 pub returns-in-NoRoom-clause-crowded : goal.returns-in-NoRoom-clause-crowded
 returns-in-NoRoom-clause-crowded g c e = subst (λ (v : View). 3 * g.row.S / 4 * (length v.usages - 2) < live_bytes v) c.region.ensures c.a_tight_region_is_nearly_full.ensures.live
+
+-- where as much is spare as is ever needed nothing goes
+pub returns-in-NoRoom-clause-spared : goal.returns-in-NoRoom-clause-spared
+returns-in-NoRoom-clause-spared g c = λ enough.
+    let few = c.need-need.ensures.few in
+    ap (λ (m : Memory). m.counts) (c.make_room.ensures.idle (omega (arith, few, enough)))
+
+pub returns-in_ok-apply-in-Room-clause-spared : goal.returns-in_ok-apply-in-Room-clause-spared
+returns-in_ok-apply-in-Room-clause-spared g c = λ enough.
+    let few = c.need-need.ensures.few in
+    c.in_ok-apply-in-Room.ensures.applied.others.counts ∙ ap (λ (m : Memory). m.counts) (c.make_room.ensures.idle (omega (arith, few, enough)))

@@ -1,0 +1,2 @@
+-- What is proved of the definitions and cited by other crates.
+pub mod Crowds
