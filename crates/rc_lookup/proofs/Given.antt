@@ -20,7 +20,7 @@ use Rattle.rc_memory.specs.Recency.{HasObject, IsRecency, MayBeListed}
 use Rattle.rc_memory.specs.laws.At.{number-low}
 use Rattle.rc_core.specs.AtPlace.{HasEntryAt}
 use Rattle.rc_version.specs.Versions.{IsEntryFound}
-use Rattle.rc_lookup.specs.Touched.{AreRecent, AreTouched, IsLineOf, IsReordered, IsRowOf}
+use Rattle.rc_lookup.specs.Touched.{AreRecent, AreTouched, IsLineOf, IsReordered, IsEntryOfRow}
 use Rattle.rc_lookup.specs.calls.Recent.{IsTurned}
 use Rattle.rc_schema.specs.SchemaValue.{SchemaValue}
 use Rattle.rc_row_cache.specs.Entries.{AreEntries}
@@ -214,8 +214,8 @@ some-chain : (o : Option KeptChain) → IsSome o → (k : KeptChain) × (o ≡ S
 some-chain None on = absurd (cc)
 some-chain (Some k) on = (k, refl)
 
-pub below-all : (id n : ℕ) (key : List Comp) (old new : Memory) → IsRecency old → HasChain old id → ((k : KeptChain) → chain_at old id ≡ Some k → length k.chain.versions ≤ n) → AreTouched (IsRowBelow id n key) old new → AreTouched (IsRowOf id key) old new
-below-all id n key old new rule has most h = touched-like (IsRowBelow id n key) (IsRowOf id key) old new (λ w on at. (at.0, at.2))
+pub below-all : (id n : ℕ) (key : List Comp) (old new : Memory) → IsRecency old → HasChain old id → ((k : KeptChain) → chain_at old id ≡ Some k → length k.chain.versions ≤ n) → AreTouched (IsRowBelow id n key) old new → AreTouched (IsEntryOfRow id key) old new
+below-all id n key old new rule has most h = touched-like (IsRowBelow id n key) (IsEntryOfRow id key) old new (λ w on at. (at.0, at.2))
     (λ w on at. (
     let k = some-chain (chain_at old id) has in
     let may : MayBeListed k.0.chain w.version w.position = subst (λ (o : Option KeptChain). IsSomeAnd o (λ q. MayBeListed q.chain w.version w.position)) (ap (chain_at old) at.0 ∙ k.1) (rule.members w on) in
@@ -263,8 +263,8 @@ module _ (m : Memory) (id number : ℕ) (n : Ref) (p : IsPlaced m id number n) (
 pub no-line : (id : ℕ) (values : List (ℕ × List ℕ)) (m : Memory) → AreTouched (IsLineOf id (line.Static values ∷ [])) m m
 no-line id values m = touched-none (IsLineOf id (line.Static values ∷ [])) m (λ w on at. at)
 
-pub row-line : (id : ℕ) (key : List Comp) (values : List (ℕ × List ℕ)) (old new : Memory) → AreTouched (IsRowOf id key) old new → AreTouched (IsLineOf id (line.Row key values ∷ [])) old new
-row-line id key values old new h = touched-like (IsRowOf id key) (IsLineOf id (line.Row key values ∷ [])) old new (λ w on at. inl at) (λ w on at. elim at [ inl this ↦ this | inr none ↦ absurd none ]) h
+pub row-line : (id : ℕ) (key : List Comp) (values : List (ℕ × List ℕ)) (old new : Memory) → AreTouched (IsEntryOfRow id key) old new → AreTouched (IsLineOf id (line.Row key values ∷ [])) old new
+row-line id key values old new h = touched-like (IsEntryOfRow id key) (IsLineOf id (line.Row key values ∷ [])) old new (λ w on at. inl at) (λ w on at. elim at [ inl this ↦ this | inr none ↦ absurd none ]) h
 
 first-line : (id : ℕ) (first : OutLine) (rest : List OutLine) (w : Member) → IsLineOf id (first ∷ []) w ⊎ IsLineOf id rest w → IsLineOf id (first ∷ rest) w
 first-line id (line.Static values) rest w at = elim at [ inl none ↦ absurd none | inr more ↦ more ]

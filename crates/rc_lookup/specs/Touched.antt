@@ -3,7 +3,7 @@
 --     IsMadeRecent    the objects of a chain are the most recent ones
 --     IsTouched       so they are, and nothing else changed
 --     IsReordered     the recency list has its members in some order, and nothing else changed
---     IsRowOf, IsLineOf, IsGivenOf    a place is that of a row's entry, or of one of several
+--     IsEntryOfRow, IsLineOf, IsEntryOfGiven    a place is that of a row's entry, or of one of several
 --     AreRecent       the objects at some places are the most recent ones
 --     AreTouched      so they are, and nothing else changed
 use Rattle.std.specs.Prelude.{◌≡◌, ◌⊎◌, ℕ, Bool, not, nat_eq, List, [], ◌∷◌, ◌++◌, Option, Some, None, filter, Contains}
@@ -39,19 +39,19 @@ pub record IsReordered (old new : Memory) : Type 0 where
   pub objects : SameObjects old.region new.region
 
 -- a place is that of the entry of a row, in a chain
-abbrev pub IsRowOf : ℕ → List Comp → Member → Type 0
-IsRowOf id key w = (w.chain ≡ id) × (w.position ≡ Some (row_pos key))
+abbrev pub IsEntryOfRow : ℕ → List Comp → Member → Type 0
+IsEntryOfRow id key w = (w.chain ≡ id) × (w.position ≡ Some (row_pos key))
 
 -- a place is that of the entry of one of the rows of these lines, in a chain
 abbrev pub IsLineOf : ℕ → List OutLine → Member → Type 0
 IsLineOf id [] w = ⊥
 IsLineOf id (line.Static values ∷ lines) w = IsLineOf id lines w
-IsLineOf id (line.Row key values ∷ lines) w = IsRowOf id key w ⊎ IsLineOf id lines w
+IsLineOf id (line.Row key values ∷ lines) w = IsEntryOfRow id key w ⊎ IsLineOf id lines w
 
 -- a place is that of the entry of one of the rows of these lines, in the chain of an entry of the cache; where there is no such entry no place is
-abbrev pub IsGivenOf : Option ℕ → List OutLine → Member → Type 0
-IsGivenOf None lines w = ⊥
-IsGivenOf (Some id) lines w = IsLineOf id lines w
+abbrev pub IsEntryOfGiven : Option ℕ → List OutLine → Member → Type 0
+IsEntryOfGiven None lines w = ⊥
+IsEntryOfGiven (Some id) lines w = IsLineOf id lines w
 
 -- The objects at these places that were in the list are the most recent ones: they stand behind all others, which stand in the order in which they stood.
 pub record AreRecent (these : Member → Type 0) (old new : List Member) : Type 0 where

@@ -1,7 +1,7 @@
 //! The rows that a reader gives become the most recent of the cache.
 ghost use Rattle.std.specs.Prelude.{◌≡◌, ◌∷◌, ℕ, [], List, None, Some, false, true};
 ghost use Rattle.rc_memory.specs.Changes.{member};
-ghost use Rattle.rc_memory.specs.Memory.{HasChain, HasVersion, Memory, chain_at};
+ghost use Rattle.rc_memory.specs.Memory.{HasChain, HasVersion, chain_at};
 ghost use Rattle.rc_position.specs.Position.{row_pos};
 ghost use Rattle.rc_schema.specs.SchemaValue.{SchemaValue};
 ghost use Rattle.rc_row_cache.specs.Entries.{AreEntries};
@@ -9,7 +9,7 @@ ghost use Rattle.rc_row_cache.specs.Found.{entry_number};
 ghost use Rattle.rc_row_cache.specs.Footprint.{AreInUse};
 ghost use Rattle.rc_row_cache.specs.Saying.{Below, CacheSays};
 ghost use Rattle.rc_lookup.specs.Rest.{LeavesRest};
-ghost use Rattle.rc_lookup.specs.Touched.{AreTouched, IsGivenOf, IsLineOf, IsRowOf};
+ghost use Rattle.rc_lookup.specs.Touched.{AreTouched, IsEntryOfGiven, IsEntryOfRow, IsLineOf};
 
 use crate::touching::touch_listed;
 use rc_chain::Chains;
@@ -34,7 +34,7 @@ fn touch_entry<const S: usize>(chains: &mut Chains<S>, id: u64, number: u64, key
 // Makes the entries of a chain at a key the most recent objects, version by version.
 fn touch_row<const S: usize>(chains: &mut Chains<S>, id: u64, key: &Key)
     requires { HasChain chains.old id }
-    ensures { AreTouched (IsRowOf id key.now) chains.old chains.new }
+    ensures { AreTouched (IsEntryOfRow id key.now) chains.old chains.new }
 {
     chains.known();
     for number in 0..chains.versions(id) {
@@ -83,7 +83,7 @@ pub fn keep_recent<const S: usize>(
     key: &PartKey,
     lines: &[OutLine],
 )
-    ensures touched { AreTouched (IsGivenOf (entry_number cache.now.entries key.now) lines.now) chains.old chains.new }
+    ensures touched { AreTouched (IsEntryOfGiven (entry_number cache.now.entries key.now) lines.now) chains.old chains.new }
     ensures rest { LeavesRest chains.old chains.new }
     ensures used { AreInUse chains.old → AreInUse chains.new }
     ensures says { (schema : SchemaValue) (below : Below) → CacheSays schema below chains.old → CacheSays schema below chains.new }

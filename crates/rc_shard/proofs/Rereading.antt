@@ -15,7 +15,7 @@ use Rattle.rc_lookup.specs.Found.{entry_number}
 use Rattle.rc_lookup.specs.Memtables.{in_chains}
 use Rattle.rc_lookup.specs.Rest.{LeavesRest}
 use Rattle.rc_lookup.specs.Saying.{Below, CacheSays}
-use Rattle.rc_lookup.specs.Touched.{AreTouched, IsGivenOf}
+use Rattle.rc_lookup.specs.Touched.{AreTouched, IsEntryOfGiven}
 use Rattle.rc_opened.specs.declared.opened.Opened.{Opened}
 use Rattle.rc_opened.specs.Opened.{snaps_of}
 use Rattle.rc_machine.specs.Serving.{Takes}
@@ -62,14 +62,14 @@ reader-at id zero d (o ∷ os) p here = ap (λ b. cond b (Some o.1) (lookup (λ 
 reader-at id (suc at) d (o ∷ os) p here = ap (λ b. cond b (Some o.1) (lookup (λ q. q == id) os)) p.0 ∙ reader-at id at d os p.1 here
 
 pub touched-as-given : (id at : ℕ) (d : ℕ × Opened) (key : List ℕ) (given lines : List OutLine) (k k' : Shard) (mid : Memory) → IsPlace id k.readers.items at → get_or k.readers.items at d ≡ d → key ≡ d.1.key → given ≡ lines → mid ≡ k.unstored.chains → k'.cache ≡ k.cache →
-    AreTouched (IsGivenOf (entry_number k.cache.entries key) given) mid k'.unstored.chains → IfSome (lookup (λ q. q == id) k.readers.items) (λ o. IsReaderTouched lines o k k')
+    AreTouched (IsEntryOfGiven (entry_number k.cache.entries key) given) mid k'.unstored.chains → IfSome (lookup (λ q. q == id) k.readers.items) (λ o. IsReaderTouched lines o k k')
 touched-as-given id at d key given lines k k' mid p here own same left cache t =
     subst (λ (o : Option Opened). IfSome o (λ x. IsReaderTouched lines x k k')) (sym (reader-at id at d k.readers.items p here))
     (record {
       cache = cache;
-      touched = subst (λ (m : Memory). AreTouched (IsGivenOf (entry_number k.cache.entries d.1.key) lines) m k'.unstored.chains) left
-          (subst (λ q. AreTouched (IsGivenOf (entry_number k.cache.entries q) lines) mid k'.unstored.chains) own
-          (subst (λ ls. AreTouched (IsGivenOf (entry_number k.cache.entries key) ls) mid k'.unstored.chains) same t));
+      touched = subst (λ (m : Memory). AreTouched (IsEntryOfGiven (entry_number k.cache.entries d.1.key) lines) m k'.unstored.chains) left
+          (subst (λ q. AreTouched (IsEntryOfGiven (entry_number k.cache.entries q) lines) mid k'.unstored.chains) own
+          (subst (λ ls. AreTouched (IsEntryOfGiven (entry_number k.cache.entries key) ls) mid k'.unstored.chains) same t));
     })
 
 -- what stands for the state that a step comes to stands for it still

@@ -20,7 +20,7 @@ use Rattle.rc_lookup.specs.Found.{entry_number}
 use Rattle.rc_lookup.specs.Fillers.{losses}
 use Rattle.rc_stream.specs.Snapshot.{NoneLost}
 use Rattle.rc_lookup.specs.Known.{IsChainKnown}
-use Rattle.rc_lookup.specs.Touched.{AreTouched, IsGivenOf, IsMadeRecent}
+use Rattle.rc_lookup.specs.Touched.{AreTouched, IsEntryOfGiven, IsMadeRecent}
 use Rattle.rc_lookup.specs.Writes.{chain_of}
 use Rattle.rc_opened.specs.declared.opened.Opened.{Opened}
 use Rattle.rc_shard.specs.declared.shard.Shard.{Shard}
@@ -58,7 +58,7 @@ IsRecentOnceHit command reply k k' = OnOpened command reply (λ key. IsCachedWho
 -- the entries of the rows of lines, in the partition of a reader, are the most recent objects of the row cache, all that were in the recency list; all others stand in the order in which they stood, and nothing else of the cache or of memory changed
 pub record IsReaderTouched (lines : List OutLine) (o : Opened) (k k' : Shard) : Type 0 where
   pub cache : k'.cache ≡ k.cache
-  pub touched : AreTouched (IsGivenOf (entry_number k.cache.entries o.key) lines) k.unstored.chains k'.unstored.chains
+  pub touched : AreTouched (IsEntryOfGiven (entry_number k.cache.entries o.key) lines) k.unstored.chains k'.unstored.chains
 
 -- What is read stays: the entries of the rows that a read gives are the most recent objects of the row cache, those of its reader's partition. So what is evicted first is what was opened or read longest ago.
 abbrev pub IsTouchedAsGiven : Command → Reply → Shard → Shard → Type 0
