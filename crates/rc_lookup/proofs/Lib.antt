@@ -19,3 +19,4 @@ mod Reordered
 mod Limits
 mod Taken
 mod Losing
+mod Given

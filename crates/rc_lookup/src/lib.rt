@@ -3,12 +3,14 @@
 
 mod filling;
 mod gathering;
+mod keeping;
 mod knowing;
 mod looking;
 mod places;
 mod populating;
 mod touching;
 
+pub use keeping::keep_recent;
 pub use looking::lookup;
 pub use populating::populate;
 pub use rc_row_cache::{

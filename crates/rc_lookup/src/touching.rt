@@ -10,7 +10,7 @@ use rc_chain::Chains;
 use rc_version::static_row;
 
 // Makes an object the most recent one, if it is in the recency list.
-fn touch_listed<const S: usize>(chains: &mut Chains<S>, r: Ref)
+pub(crate) fn touch_listed<const S: usize>(chains: &mut Chains<S>, r: Ref)
     requires { (w : Member) × IsMemberObject chains.old r w }
     ensures { (w : Member) → IsMemberObject chains.old r w → IsTurned w chains.old chains.new }
 {

@@ -14,7 +14,7 @@ use crate::no_files::NoFiles;
 use crate::opening::new_sources_say_what_was_written;
 use crate::written::Written;
 use rc_chain::Chains;
-use rc_position::Slice;
+use rc_position::{PartKey, Slice};
 use rc_query::Lines;
 use rc_reader::Reader;
 use rc_snapshots::Snaps;
@@ -33,9 +33,10 @@ pub trait Leaves<H> {
     ghost lines: { Self → H → List OutLine → Type 0 };
 }
 
-/// An open reader of a slice of one partition: what its tables said, which was read when it was opened, with snapshots of what stood in no table then. It is read over the chains of these snapshots, a page at a time.
+/// An open reader of a slice of one partition, whose key it keeps: what its tables said, which was read when it was opened, with snapshots of what stood in no table then. It is read over the chains of these snapshots, a page at a time.
 pub struct Opened {
     pub(crate) reader: Reader<Sources>,
+    pub(crate) key: PartKey,
 }
 
 impl<const S: usize> Leaves<Chains<S>> for Opened {
@@ -45,12 +46,13 @@ impl<const S: usize> Leaves<Chains<S>> for Opened {
 }
 
 impl Opened {
-    /// A reader from the beginning of a slice on, of a partition of which the tables said this, which is the stream of a mutation from its beginning, with snapshots of what is sealed of it and of what is written since. The only error is want of memory: then the snapshots are given back.
+    /// A reader from the beginning of a slice on, of the partition of a key, of which the tables said this, which is the stream of a mutation from its beginning, with snapshots of what is sealed of it and of what is written since. The only error is want of memory: then the snapshots are given back.
     pub fn open<const S: usize>(
         alloc: Global,
         chains: &mut Chains<S>,
         snaps: Snaps,
         tables: ListFrags,
+        key: &PartKey,
         slice: &Slice,
     ) -> Result<Self, (Snaps, AllocError)>
         requires sees { (writes : List Change) × (later : List Change) × SeesAllOf writes chains.old snaps.sealed × SeesAllOf later chains.old snaps.active }
@@ -58,13 +60,17 @@ impl Opened {
         ensures gives { (schema : SchemaValue) (tabled : Change) (said writes later : List Change) → IsMutation tabled → tables ≡ stream_of (fragments tabled) → IsJoinOf tabled said → AreChangesOf schema writes → AreChangesOf schema later → SeesAllOf writes chains.old snaps.sealed → SeesAllOf later chains.old snaps.active →
             IfOk result (λ o. ⟦<Opened as Leaves<Chains<S>>>⟧.lines o chains.new (answer (said ++ (writes ++ later)) slice.now)) }
         ensures snaps { IfOk result (λ o. snaps_of o ≡ snaps) }
+        ensures key { IfOk result (λ o. o.key ≡ key.now) }
         ensures back { IfErr result (λ e. e.0 ≡ snaps) }
         ensures chains { chains.new ≡ chains.old }
     {
         new_sources_say_what_was_written::<S>();
+        let Ok(key) = key.copy(alloc) else {
+            return Err((snaps, AllocError));
+        };
         let stream = sources(alloc, snaps, tables);
         match Reader::open(alloc, stream, slice, chains, &mut NoFiles { begun: false }) {
-            Ok(reader) => Ok(Opened { reader }),
+            Ok(reader) => Ok(Opened { reader, key }),
             Err((stream, _)) => Err((given_back(stream), AllocError)),
         }
     }
@@ -81,6 +87,7 @@ impl Opened {
         ensures more { (lines : List Line) → ⟦<Opened as Leaves<Chains<S>>>⟧.lines self.old chains.old lines → IfOk result (λ gave. gave.1 ≡ nat_lt count (length lines)) }
         ensures left { (lines : List Line) → ⟦<Opened as Leaves<Chains<S>>>⟧.lines self.old chains.old lines → ⟦<Opened as Leaves<Chains<S>>>⟧.lines self.new chains.new (left_behind result count lines) }
         ensures snaps { snaps_of self.new ≡ snaps_of self.old }
+        ensures key { self.new.key ≡ self.old.key }
         ensures chains { chains.new ≡ chains.old }
     {
         match self
@@ -93,11 +100,18 @@ impl Opened {
         }
     }
 
+    /// The key of its partition.
+    pub fn key(&self) -> &PartKey
+        ensures { result.now ≡ self.now.key }
+    {
+        &self.key
+    }
+
     /// The snapshots of a reader that is done with, to be taken back.
     pub fn into_snaps(self) -> Snaps
         ensures { result ≡ snaps_of self }
     {
-        let Opened { reader } = self;
+        let Opened { reader, key: _key } = self;
         given_back(reader.into_stream())
     }
 }

@@ -18,3 +18,4 @@ mod Filled
 mod Evicted
 pub mod Counted
 mod Losing
+mod Rereading

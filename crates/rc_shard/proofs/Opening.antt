@@ -74,9 +74,9 @@ module _ (lines : Opened → Memory → List OutLine → Type 0) (stays : (o : O
       position (λ reader. reader.0 == id) k.readers.items ≡ None → k'.folder ≡ k.folder → k'.cache.entries ≡ k.cache.entries → k'.segments ≡ k.segments → k'.readers.items ≡ k.readers.items ++ (id, x) ∷ [] → ((schema : SchemaValue) → IsKept schema k.unstored k'.unstored) → (said : List Mutation) →
       ((schema : SchemaValue) (writes later : List Write) → HaveWrites schema k.unstored writes later → AreChangesOf schema (changes_to key writes) → AreChangesOf schema (changes_to key later) →
       lines x k'.unstored.chains (answer (said ++ (changes_to key writes ++ changes_to key later)) slice)) →
-      AreThere k'.unstored.chains (snaps_of x) → AreOfTwo (snaps_of x) → ((s : Snap) → HasPin k.unstored.chains s.chain s.pin → IsNoneOf (snaps_of x) s) →
+      AreThere k'.unstored.chains (snaps_of x) → AreOfTwo (snaps_of x) → x.key ≡ key → ((s : Snap) → HasPin k.unstored.chains s.chain s.pin → IsNoneOf (snaps_of x) s) →
       (m : State) → Stands lines files k m → Stands lines files k' (record m { readers = m.readers ++ (id, reader_with m key slice said) ∷ [] })
-  opens-reader files k k' id key slice x both unused folder cache segs items kept said gives there two fresh m s =
+  opens-reader files k k' id key slice x both unused folder cache segs items kept said gives there two own fresh m s =
       let schema : SchemaValue = k.folder.schema in
       let stays-in = kept schema in
       let h = s.have in
@@ -87,7 +87,7 @@ module _ (lines : Opened → Memory → List OutLine → Type 0) (stays : (o : O
       let given : List (ℕ × Reader) = m.readers ++ (id, r) ∷ [] in
       let left : lines x k'.unstored.chains (rest_of r) = subst (λ (cs : List Mutation). lines x k'.unstored.chains (answer (said ++ cs) slice)) split (gives schema h.sealed h.later h.have (changes-good schema key h.sealed goods.0) (changes-good schema key h.later goods.1)) in
       let old = all-served lines stays k.unstored.chains k'.unstored.chains k.readers.items m.readers stays-in.seen s.served in
-      let new : IsServed lines k'.unstored.chains (id, x) (id, r) = record { id = refl; left = left; there = there; chains = two } in
+      let new : IsServed lines k'.unstored.chains (id, x) (id, r) = record { id = refl; key = own; left = left; there = there; chains = two } in
       let served = more-served lines k'.unstored.chains (id, x) (id, r) k.readers.items m.readers old new in
       let pairs = more-two lines k.unstored.chains id (id, x) k.readers.items m.readers s.served (nowhere-of id k.readers.items unused) refl fresh s.two in
       let stands = reading-for lines files k.folder k.unstored k'.unstored k.cache.entries k.readers.items (k.readers.items ++ (id, x) ∷ []) k.segments m given stays-in.stands stays-in.room stays-in.cache served pairs s in

@@ -128,6 +128,7 @@ module _ (lines : Opened → Memory → List OutLine → Type 0) where
   pub record IsFound (m : Memory) (id : ℕ) (o : ℕ × Opened) (rs : List (ℕ × Reader)) : Type 0 where
     pub reader : Reader
     pub found : lookup (λ q. q == id) rs ≡ Some reader
+    pub key : o.1.key ≡ reader.key
     pub left : lines o.1 m (rest_of reader)
     pub there : AreThere m (snaps_of o.1)
     pub chains : AreOfTwo (snaps_of o.1)
@@ -138,6 +139,7 @@ module _ (lines : Opened → Memory → List OutLine → Type 0) where
   look-some m id zero d (o ∷ os) (r ∷ rs) h p = record {
     reader = r.1;
     found = ap (λ b. cond b (Some r.1) (lookup (λ q. q == id) rs)) (subst (λ i. (i == id) ≡ true) h.0.id p);
+    key = h.0.key;
     left = h.0.left;
     there = h.0.there;
     chains = h.0.chains;
@@ -147,6 +149,7 @@ module _ (lines : Opened → Memory → List OutLine → Type 0) where
       record {
         reader = f.reader;
         found = ap (λ b. cond b (Some r.1) (lookup (λ q. q == id) rs)) (subst (λ i. (i == id) ≡ false) h.0.id p.0) ∙ f.found;
+        key = f.key;
         left = f.left;
         there = f.there;
         chains = f.chains;
@@ -156,7 +159,7 @@ module _ (lines : Opened → Memory → List OutLine → Type 0) where
 
   module _ (stays : (o : Opened) (m n : Memory) (ls : List OutLine) → StillSeeBoth (snaps_of o) m n → lines o m ls → lines o n ls) where
     pub still-served : (m n : Memory) (o : ℕ × Opened) (r : ℕ × Reader) → StillSeeBoth (snaps_of o.1) m n → IsServed lines m o r → IsServed lines n o r
-    still-served m n o r sees h = record { id = h.id; left = stays o.1 m n (rest_of r.1) sees h.left; there = there-then m n (snaps_of o.1) h.there sees; chains = h.chains }
+    still-served m n o r sees h = record { id = h.id; key = h.key; left = stays o.1 m n (rest_of r.1) sees h.left; there = there-then m n (snaps_of o.1) h.there sees; chains = h.chains }
 
     pub all-served : (m n : Memory) (os : List (ℕ × Opened)) (rs : List (ℕ × Reader)) → AllStillSee m n → AllZip (IsServed lines m) os rs → AllZip (IsServed lines n) os rs
     all-served m n [] [] sees h = tt
@@ -195,27 +198,27 @@ module _ (lines : Opened → Memory → List OutLine → Type 0) where
 
   -- ---- one gave lines
 
-  pub set-served : (m : Memory) (id at : ℕ) (d x : ℕ × Opened) (past : Reader) (os : List (ℕ × Opened)) (rs : List (ℕ × Reader)) → x.0 ≡ (get_or os at d).0 → lines x.1 m (rest_of past) → AreThere m (snaps_of x.1) → AreOfTwo (snaps_of x.1) → IsPlace id os at →
+  pub set-served : (m : Memory) (id at : ℕ) (d x : ℕ × Opened) (past : Reader) (os : List (ℕ × Opened)) (rs : List (ℕ × Reader)) → x.0 ≡ (get_or os at d).0 → x.1.key ≡ past.key → lines x.1 m (rest_of past) → AreThere m (snaps_of x.1) → AreOfTwo (snaps_of x.1) → IsPlace id os at →
       AllZip (IsServed lines m) os rs → AllZip (IsServed lines m) (set os at x) (set_value (λ q. q == id) rs past)
-  set-served m id at d x past [] rs same left there chains p h = absurd p
-  set-served m id at d x past (o ∷ os) [] same left there chains p h = absurd h
-  set-served m id zero d x past (o ∷ os) (r ∷ rs) same left there chains p h =
+  set-served m id at d x past [] rs same key left there chains p h = absurd p
+  set-served m id at d x past (o ∷ os) [] same key left there chains p h = absurd h
+  set-served m id zero d x past (o ∷ os) (r ∷ rs) same key left there chains p h =
       let mine : (r.0 == id) ≡ true = subst (λ i. (i == id) ≡ true) h.0.id p in
-      subst (λ b. AllZip (IsServed lines m) (x ∷ os) (cond b ((r.0, past) ∷ rs) (r ∷ set_value (λ q. q == id) rs past))) (sym mine) (record { id = same ∙ h.0.id; left = left; there = there; chains = chains }, h.1)
-  set-served m id (suc at) d x past (o ∷ os) (r ∷ rs) same left there chains p h =
+      subst (λ b. AllZip (IsServed lines m) (x ∷ os) (cond b ((r.0, past) ∷ rs) (r ∷ set_value (λ q. q == id) rs past))) (sym mine) (record { id = same ∙ h.0.id; key = key; left = left; there = there; chains = chains }, h.1)
+  set-served m id (suc at) d x past (o ∷ os) (r ∷ rs) same key left there chains p h =
       let other : (r.0 == id) ≡ false = subst (λ i. (i == id) ≡ false) h.0.id p.0 in
-      let more = set-served m id at d x past os rs same left there chains p.1 h.1 in
+      let more = set-served m id at d x past os rs same key left there chains p.1 h.1 in
       subst (λ b. AllZip (IsServed lines m) (o ∷ set os at x) (cond b ((r.0, past) ∷ rs) (r ∷ set_value (λ q. q == id) rs past))) (sym other) (h.0, more)
 
   -- ---- one gave none, for want of memory
 
-  pub set-kept : (m : Memory) (id at : ℕ) (d x : ℕ × Opened) (os : List (ℕ × Opened)) (rs : List (ℕ × Reader)) → x.0 ≡ (get_or os at d).0 → ((ls : List OutLine) → lines (get_or os at d).1 m ls → lines x.1 m ls) → snaps_of x.1 ≡ snaps_of (get_or os at d).1 → IsPlace id os at →
+  pub set-kept : (m : Memory) (id at : ℕ) (d x : ℕ × Opened) (os : List (ℕ × Opened)) (rs : List (ℕ × Reader)) → x.0 ≡ (get_or os at d).0 → x.1.key ≡ (get_or os at d).1.key → ((ls : List OutLine) → lines (get_or os at d).1 m ls → lines x.1 m ls) → snaps_of x.1 ≡ snaps_of (get_or os at d).1 → IsPlace id os at →
       AllZip (IsServed lines m) os rs → AllZip (IsServed lines m) (set os at x) rs
-  set-kept m id at d x [] rs same left snaps p h = absurd p
-  set-kept m id at d x (o ∷ os) [] same left snaps p h = absurd h
-  set-kept m id zero d x (o ∷ os) (r ∷ rs) same left snaps p h =
-      (record { id = same ∙ h.0.id; left = left (rest_of r.1) h.0.left; there = subst (AreThere m) (sym snaps) h.0.there; chains = subst AreOfTwo (sym snaps) h.0.chains }, h.1)
-  set-kept m id (suc at) d x (o ∷ os) (r ∷ rs) same left snaps p h = (h.0, set-kept m id at d x os rs same left snaps p.1 h.1)
+  set-kept m id at d x [] rs same key left snaps p h = absurd p
+  set-kept m id at d x (o ∷ os) [] same key left snaps p h = absurd h
+  set-kept m id zero d x (o ∷ os) (r ∷ rs) same key left snaps p h =
+      (record { id = same ∙ h.0.id; key = key ∙ h.0.key; left = left (rest_of r.1) h.0.left; there = subst (AreThere m) (sym snaps) h.0.there; chains = subst AreOfTwo (sym snaps) h.0.chains }, h.1)
+  set-kept m id (suc at) d x (o ∷ os) (r ∷ rs) same key left snaps p h = (h.0, set-kept m id at d x os rs same key left snaps p.1 h.1)
 
   -- ---- one more
 

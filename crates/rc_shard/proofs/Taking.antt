@@ -156,9 +156,9 @@ module _ (lines : Opened → Memory → List OutLine → Type 0) where
 
   pub takes-read : (files : Option Files) (k k' : Shard) (id count at : ℕ) (d x : ℕ × Opened) (gave : List OutLine) (more : Bool) → IsPlace id k.readers.items at → get_or k.readers.items at d ≡ d →
       ((ls : List OutLine) → lines d.1 k.unstored.chains ls → gave ≡ take count ls) → ((ls : List OutLine) → lines d.1 k.unstored.chains ls → more ≡ nat_lt count (length ls)) →
-      ((ls : List OutLine) → lines d.1 k.unstored.chains ls → lines x.1 k'.unstored.chains (drop count ls)) → x.0 ≡ d.0 → snaps_of x.1 ≡ snaps_of d.1 →
+      ((ls : List OutLine) → lines d.1 k.unstored.chains ls → lines x.1 k'.unstored.chains (drop count ls)) → x.0 ≡ d.0 → x.1.key ≡ d.1.key → snaps_of x.1 ≡ snaps_of d.1 →
       k'.folder ≡ k.folder → k'.cache.entries ≡ k.cache.entries → k'.unstored ≡ k.unstored → k'.segments ≡ k.segments → k'.readers.items ≡ set k.readers.items at x → Takes (Stands lines) files k (Read id count) (replies.Given gave more) files k'
-  takes-read files k k' id count at d x gave more p here first left rest same snaps folder cache unst segs items = λ m s.
+  takes-read files k k' id count at d x gave more p here first left rest same own snaps folder cache unst segs items = λ m s.
       let f = found-at files k m id at d s p here in
       let r : Reader = f.reader in
       let given : List (ℕ × Reader) = set_value (λ q. q == id) m.readers (reader_past count r) in
@@ -168,7 +168,7 @@ module _ (lines : Opened → Memory → List OutLine → Type 0) where
       let given-lines : lines x.1 k.unstored.chains (rest_of (reader_past count r)) = subst (lines x.1 k.unstored.chains) (sym (rest_past count r)) later in
       let there : AreThere k.unstored.chains (snaps_of x.1) = subst (AreThere k.unstored.chains) (sym snaps) f.there in
       let two : AreOfTwo (snaps_of x.1) = subst AreOfTwo (sym snaps) f.chains in
-      let served = set-served lines k.unstored.chains id at d x (reader_past count r) k.readers.items m.readers (same ∙ ap (λ (o : ℕ × Opened). o.0) (sym here)) given-lines there two p s.served in
+      let served = set-served lines k.unstored.chains id at d x (reader_past count r) k.readers.items m.readers (same ∙ ap (λ (o : ℕ × Opened). o.0) (sym here)) (own ∙ f.key) given-lines there two p s.served in
       let pairs = same-two id at d x k.readers.items p (same ∙ ap (λ (o : ℕ × Opened). o.0) (sym here)) (snaps ∙ ap (λ (o : ℕ × Opened). snaps_of o.1) (sym here)) s.two in
       let stands = reading-for lines files k.folder k.unstored k.unstored k.cache.entries k.readers.items (set k.readers.items at x) k.segments m given (λ writes later h. h) (no-more-same k.unstored.chains k.unstored.chains refl) (keeps-itself k.unstored.chains) served pairs s in (
         record m { readers = given },
@@ -177,13 +177,13 @@ module _ (lines : Opened → Memory → List OutLine → Type 0) where
       )
 
   -- a reader gave none, for want of memory
-  pub keeps-read : (k k' : Shard) (id at : ℕ) (d x : ℕ × Opened) → IsPlace id k.readers.items at → get_or k.readers.items at d ≡ d → ((ls : List OutLine) → lines d.1 k.unstored.chains ls → lines x.1 k'.unstored.chains ls) → x.0 ≡ d.0 → snaps_of x.1 ≡ snaps_of d.1 →
+  pub keeps-read : (k k' : Shard) (id at : ℕ) (d x : ℕ × Opened) → IsPlace id k.readers.items at → get_or k.readers.items at d ≡ d → ((ls : List OutLine) → lines d.1 k.unstored.chains ls → lines x.1 k'.unstored.chains ls) → x.0 ≡ d.0 → x.1.key ≡ d.1.key → snaps_of x.1 ≡ snaps_of d.1 →
       k'.folder ≡ k.folder → k'.cache.entries ≡ k.cache.entries → k'.unstored ≡ k.unstored → k'.segments ≡ k.segments → k'.readers.items ≡ set k.readers.items at x → Keeps (Stands lines) k k'
-  keeps-read k k' id at d x p here rest same snaps folder cache unst segs items = λ files m s.
+  keeps-read k k' id at d x p here rest same own snaps folder cache unst segs items = λ files m s.
       let chains : k'.unstored.chains ≡ k.unstored.chains = ap (λ u. u.chains) unst in
       let left : (ls : List OutLine) → lines (get_or k.readers.items at d).1 k.unstored.chains ls → lines x.1 k.unstored.chains ls =
       λ ls h. subst (λ (mem : Memory). lines x.1 mem ls) chains (rest ls (subst (λ (o : ℕ × Opened). lines o.1 k.unstored.chains ls) here h)) in
-      let served = set-kept lines k.unstored.chains id at d x k.readers.items m.readers (same ∙ ap (λ (o : ℕ × Opened). o.0) (sym here)) left (snaps ∙ ap (λ (o : ℕ × Opened). snaps_of o.1) (sym here)) p s.served in
+      let served = set-kept lines k.unstored.chains id at d x k.readers.items m.readers (same ∙ ap (λ (o : ℕ × Opened). o.0) (sym here)) (own ∙ ap (λ (o : ℕ × Opened). o.1.key) (sym here)) left (snaps ∙ ap (λ (o : ℕ × Opened). snaps_of o.1) (sym here)) p s.served in
       let pairs = same-two id at d x k.readers.items p (same ∙ ap (λ (o : ℕ × Opened). o.0) (sym here)) (snaps ∙ ap (λ (o : ℕ × Opened). snaps_of o.1) (sym here)) s.two in
       let stands = reading-for lines files k.folder k.unstored k.unstored k.cache.entries k.readers.items (set k.readers.items at x) k.segments m m.readers (λ writes later h. h) (no-more-same k.unstored.chains k.unstored.chains refl) (keeps-itself k.unstored.chains) served pairs s in
       moved files k k' k.unstored (set k.readers.items at x) m folder unst cache segs items stands

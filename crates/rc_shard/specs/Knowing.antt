@@ -5,19 +5,24 @@
 --     IsKnownOnceOpened      a partition that was opened is known
 --     IsPartitionRecent      its objects are the most recent ones
 --     IsRecentOnceHit        so they are once it was opened, where it was known before
+--     IsReaderTouched    the rows of lines are the most recent ones of a reader's partition
+--     IsTouchedAsGiven   so those are that a read gives
 --     IsUnwritten, Spares    a partition that no memtable has; which partitions a command leaves
 --     StaysKnown             what is known stays known
-use Rattle.std.specs.Prelude.{◌≡◌, ℕ, IsSomeAnd, List, None, ⊤}
+use Rattle.std.specs.Prelude.{◌≡◌, ◌==◌, ℕ, IfSome, IsSomeAnd, List, None, ⊤}
+use Rattle.std.specs.Map.{lookup}
+use Rattle.rc_query.specs.declared.lines.OutLine.{OutLine}
 use Rattle.rc_lines.specs.declared.commands.Command.{Command}
-use Rattle.rc_lines.specs.declared.commands.Command.TheVariants.{Flush, OpenRead}
+use Rattle.rc_lines.specs.declared.commands.Command.TheVariants.{Flush, OpenRead, Read}
 use Rattle.rc_lines.specs.declared.commands.Reply.{Reply}
-use Rattle.rc_lines.specs.declared.commands.Reply.TheVariants.{Fine}
+use Rattle.rc_lines.specs.declared.commands.Reply.TheVariants.{Fine, Given}
 use Rattle.rc_lookup.specs.Found.{entry_number}
 use Rattle.rc_lookup.specs.Fillers.{losses}
 use Rattle.rc_stream.specs.Snapshot.{NoneLost}
 use Rattle.rc_lookup.specs.Known.{IsChainKnown}
-use Rattle.rc_lookup.specs.Touched.{IsMadeRecent}
+use Rattle.rc_lookup.specs.Touched.{AreTouched, IsEntryOfGiven, IsMadeRecent}
 use Rattle.rc_lookup.specs.Writes.{chain_of}
+use Rattle.rc_opened.specs.declared.opened.Opened.{Opened}
 use Rattle.rc_shard.specs.declared.shard.Shard.{Shard}
 
 -- the row cache knows all of a partition: its static row, and each row and each gap between rows
@@ -49,6 +54,16 @@ IsPartitionRecent key k k' = IsSomeAnd (entry_number k'.cache.entries key) (λ i
 -- A hit: once a reader is opened of a partition of which the row cache knew all, the partition's objects are the most recent ones. So what is evicted first is what was used longest ago.
 abbrev pub IsRecentOnceHit : Command → Reply → Shard → Shard → Type 0
 IsRecentOnceHit command reply k k' = OnOpened command reply (λ key. IsCachedWhole k key → IsPartitionRecent key k k')
+
+-- the entries of the rows of lines, in the partition of a reader, are the most recent objects of the row cache, all that were in the recency list; all others stand in the order in which they stood, and nothing else of the cache or of memory changed
+pub record IsReaderTouched (lines : List OutLine) (o : Opened) (k k' : Shard) : Type 0 where
+  pub cache : k'.cache ≡ k.cache
+  pub touched : AreTouched (IsEntryOfGiven (entry_number k.cache.entries o.key) lines) k.unstored.chains k'.unstored.chains
+
+-- What is read stays: the entries of the rows that a read gives are the most recent objects of the row cache, those of its reader's partition. So what is evicted first is what was opened or read longest ago.
+abbrev pub IsTouchedAsGiven : Command → Reply → Shard → Shard → Type 0
+IsTouchedAsGiven (Read id count) (Given lines more) k k' = IfSome (lookup (λ q. q == id) k.readers.items) (λ o. IsReaderTouched lines o k k')
+IsTouchedAsGiven command reply k k' = ⊤
 
 -- no write that stands in no table names the key
 pub record IsUnwritten (k : Shard) (key : List ℕ) : Type 0 where

@@ -67,9 +67,10 @@ pub record AreTwo (x y : ℕ × Snaps) : Type 0 where
 
 -- These lines are left to an open reader over memory.
 module _ (lines : Opened → Memory → List OutLine → Type 0) where
-  -- an open reader with its id is that of the machine: it is left what that one has not given yet; its snapshots are there, and of two chains
+  -- an open reader with its id is that of the machine: it reads the same partition, and is left what that one has not given yet; its snapshots are there, and of two chains
   pub record IsServed (memory : Memory) (o : ℕ × Opened) (r : ℕ × Reader) : Type 0 where
     pub id : o.0 ≡ r.0
+    pub key : o.1.key ≡ r.1.key
     pub left : lines o.1 memory (rest_of r.1)
     pub there : AreThere memory (snaps_of o.1)
     pub chains : AreOfTwo (snaps_of o.1)

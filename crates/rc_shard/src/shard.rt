@@ -37,7 +37,7 @@ ghost use Rattle.rc_shard.specs.Counting.{figures_of};
 ghost use Rattle.rc_shard.specs.Compacting.{IsCompactedAsTold};
 ghost use Rattle.rc_shard.specs.Evicting.{IsEvictedAsTold, IsLostAsTold};
 ghost use Rattle.rc_shard.specs.Losing.{IsLostInCrowd, LosesForWrite, LosesInCrowd};
-ghost use Rattle.rc_shard.specs.Knowing.{AsksNothingWhereKnown, IsCachedWhole, IsKnownOnceOpened, IsPartitionRecent, IsRecentOnceHit, StaysKnown};
+ghost use Rattle.rc_shard.specs.Knowing.{AsksNothingWhereKnown, IsCachedWhole, IsKnownOnceOpened, IsPartitionRecent, IsRecentOnceHit, IsTouchedAsGiven, StaysKnown};
 ghost use Rattle.rc_shard.specs.Opening.{IsOnePinned, IsOpenedAsTold, PinsPartition};
 ghost use Rattle.rc_shard.specs.Stands.{AreOfTwo, AreTwo, IsFullAsTold, holding};
 ghost use Rattle.rc_shard.specs.calls.Keeping.{CountsStay, Keeps, TellsOf};
@@ -59,7 +59,7 @@ use rc_lookup::unstored_laws::{
     both_say_what_was_written, what_a_call_leaves_of_the_room, what_a_snapshot_of_a_key_sees,
     what_leaves_the_chains_of_both_leaves_their_writes,
 };
-use rc_lookup::{Chains, RowCache, Unstored, lookup, populate};
+use rc_lookup::{Chains, RowCache, Unstored, keep_recent, lookup, populate};
 use rc_mutation::laws::a_join_says_what_the_writes_say;
 use rc_mutation::{Mutation, Write};
 use rc_opened::{Leaves, Opened, what_is_left_stays_where_the_snapshots_see_the_same};
@@ -163,6 +163,7 @@ impl Machine for Shard {
         ensures known { AsksNothingWhereKnown command.now self.old (W.asks store.old) (W.asks store.new) }
         ensures filled { IfOk result (λ reply. IsKnownOnceOpened command.now reply self.old self.new) }
         ensures recent { IfOk result (λ reply. IsRecentOnceHit command.now reply self.old self.new) }
+        ensures touches { IfOk result (λ reply. IsTouchedAsGiven command.now reply self.old self.new) }
         ensures stays { OnOk result (StaysKnown command.now self.old self.new) }
         ensures evicts { IsEvictedAsTold command.now self.old.unstored.chains self.new.unstored.chains }
         ensures compacts { IsCompactedAsTold command.now self.old.unstored.chains self.new.unstored.chains }
@@ -239,6 +240,7 @@ impl Shard {
         ensures known { AsksNothingWhereKnown command.now self.old (W.asks store.old) (W.asks store.new) }
         ensures filled { IfOk result (λ reply. IsKnownOnceOpened command.now reply self.old self.new) }
         ensures recent { IfOk result (λ reply. IsRecentOnceHit command.now reply self.old self.new) }
+        ensures touches { IfOk result (λ reply. IsTouchedAsGiven command.now reply self.old self.new) }
         ensures stays { OnOk result (StaysKnown command.now self.old self.new) }
         ensures evicts { IsEvictedAsTold command.now self.old.unstored.chains self.new.unstored.chains }
         ensures compacts { IsCompactedAsTold command.now self.old.unstored.chains self.new.unstored.chains }
@@ -484,21 +486,27 @@ impl Shard {
         }
     }
 
-    // Gives a reader's next lines.
+    // Gives a reader's next lines, whose rows become the most recent ones of the row cache.
     fn read(&mut self, alloc: Global, id: u32, count: u32) -> Result<Reply, AllocError>
         requires { (files : Option Files) × (m : State) × ⟦<Shard as Machine>⟧.stands files self.old m }
         ensures step { (files : Option Files) → IfOk result (λ reply. Takes ⟦<Shard as Machine>⟧.stands files self.old (Command.Read id count) reply files self.new) }
         ensures same { self.new.unstored.chains.counts ≡ self.old.unstored.chains.counts }
         ensures left { IsCacheLeft self.old self.new }
+        ensures touches { IfOk result (λ reply. IsTouchedAsGiven (Command.Read id count) reply self.old self.new) }
         ensures faultless { (n : ℕ) → IfOk result (λ reply. OnFaulty reply (Rose n n)) }
         ensures err { OnErr result (Keeps ⟦<Shard as Machine>⟧.stands self.old self.new) }
         ensures counts { CountsStay self.old self.new }
     {
+        what_is_left_stays_where_the_snapshots_see_the_same::<131_072>();
+        what_leaves_the_chains_of_both_leaves_their_writes();
         match place_of(self.readers.as_slice(), id) {
             None => Ok(Reply::Refused(Refusal::NoReader)),
             Some(at) => {
                 let reader = &mut self.readers[at];
                 let (lines, more) = reader.1.read(alloc, &mut self.unstored.chains, count)?;
+                let key = reader.1.key();
+                let chains = &mut self.unstored.chains;
+                keep_recent(&self.cache, chains, key, lines.as_slice());
                 Ok(Reply::Given { lines, more })
             }
         }
@@ -600,6 +608,7 @@ fn open_in(
     ensures there { IfOk result (λ o. AreThere unstored.new.chains (snaps_of o)) }
     ensures two { IfOk result (λ o. AreOfTwo (snaps_of o)) }
     ensures pins { IfOk result (PinsPartition key.now unstored.old unstored.new) }
+    ensures key { IfOk result (λ o. o.key ≡ key.now) }
     ensures fresh { IfOk result (λ o. (s : Snapshot) → HasPin unstored.old.chains s.chain s.pin → IsNoneOf (snaps_of o) s) }
     ensures kept { (schema : SchemaValue) → IsKept schema unstored.old unstored.new }
 {
@@ -608,7 +617,7 @@ fn open_in(
     what_a_snapshot_of_a_key_sees();
     a_snapshot_sees_what_it_saw();
     let snaps = unstored.snapshot(key)?;
-    match Opened::open(alloc, &mut unstored.chains, snaps, tables, slice) {
+    match Opened::open(alloc, &mut unstored.chains, snaps, tables, key, slice) {
         Ok(opened) => Ok(opened),
         Err((snaps, error)) => {
             unstored.release_both(snaps);

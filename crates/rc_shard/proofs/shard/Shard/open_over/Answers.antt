@@ -27,7 +27,7 @@ returns-clause-opened c = λ files m s told.
     let new : Shard = record c.args.self.now { unstored = c.open_in.new.unstored; readers = c.push.new.self } in
     let items : c.push.new.self.items ≡ c.args.self.now.readers.items ++ (c.args.id, x) ∷ [] = c.in-Ok.ensures.items ∙ ap (λ (os : List (ℕ × Opened)). os ++ (c.args.id, x) ∷ []) c.reserve.ensures.items in
     opens-reader _ c.what_is_left_stays_where_the_snapshots_see_the_same.ensures files c.args.self.now new c.args.id c.args.key.now c.args.slice.now x (λ writes later. c.both_say_what_was_written.ensures.changes c.args.key.now writes later)
-    c.requires.unused refl refl refl items (λ schema. c.open_in.ensures.kept schema) told.said (λ schema writes later h fit more. c.in_ok-opened.ensures.gives schema writes later told.tabled told.said h told.mutation told.stream told.joined fit more) c.in_ok-opened.ensures.there c.in_ok-opened.ensures.two c.in_ok-opened.ensures.fresh m s
+    c.requires.unused refl refl refl items (λ schema. c.open_in.ensures.kept schema) told.said (λ schema writes later h fit more. c.in_ok-opened.ensures.gives schema writes later told.tabled told.said h told.mutation told.stream told.joined fit more) c.in_ok-opened.ensures.there c.in_ok-opened.ensures.two c.in_ok-opened.ensures.key c.in_ok-opened.ensures.fresh m s
 
 pub returns-in_err-opened-clause-counts : goal.returns-in_err-opened-clause-counts
 returns-in_err-opened-clause-counts c = record { answered = refl; segments = refl; asked = refl; none_fell = (c.open_in.ensures.kept c.args.self.now.folder.schema).room.counts }

@@ -170,6 +170,19 @@ returns-in-Read-clause-recent g c = rw (c.in-Read.is) (if-ok-all c.read.result _
 pub returns-in-Flush-clause-recent : goal.returns-in-Flush-clause-recent
 returns-in-Flush-clause-recent g c = rw (c.in-Flush.is) (if-ok-all c.flush.result _ (λ reply. tt))
 
+-- which rows stay
+pub returns-in-OpenRead-clause-touches : goal.returns-in-OpenRead-clause-touches
+returns-in-OpenRead-clause-touches g c = rw (c.in-OpenRead.is) (if-ok-all c.open_read.result _ (λ reply. tt))
+
+pub returns-in-Put-clause-touches : goal.returns-in-Put-clause-touches
+returns-in-Put-clause-touches g c = rw (c.in-Put.is) (if-ok-all c.put.result _ (λ reply. tt))
+
+pub returns-in-Read-clause-touches : goal.returns-in-Read-clause-touches
+returns-in-Read-clause-touches g c = rw (c.in-Read.is) c.read.ensures.touches
+
+pub returns-in-Flush-clause-touches : goal.returns-in-Flush-clause-touches
+returns-in-Flush-clause-touches g c = rw (c.in-Flush.is) (if-ok-all c.flush.result _ (λ reply. tt))
+
 -- what is known still
 pub returns-in-Nothing-clause-stays : goal.returns-in-Nothing-clause-stays
 returns-in-Nothing-clause-stays g c = λ none key spared whole. whole
