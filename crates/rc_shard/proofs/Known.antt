@@ -1,6 +1,6 @@
--- What the row cache knows whole it knows whole still.
+-- What the row cache knows of a partition it knows still.
 use Rattle.std.proofs.Common.{inl, inr, ◌≡◌, ℕ, true, false, List, [], ◌∷◌, Option, Some, None, Result, Ok, Err, refl, sym, ap, ◌∙◌, subst}
-use Rattle.std.specs.Prelude.{◌||◌, IfErr, IfOk, IsSomeAnd, OnOk, cond, is_some, map}
+use Rattle.std.specs.Prelude.{◌||◌, IfErr, IfOk, IsSomeAnd, IsTrue, OnOk, cond, is_some, map}
 use Rattle.std.specs.List.{list_any}
 use Rattle.std.specs.Ordering.{eq_by_cmp}
 use Rattle.std.specs.FinMap as finite
@@ -12,16 +12,23 @@ use Rattle.rc_mutation.specs.declared.mutations.Partition.{Partition}
 use Rattle.rc_mutation.specs.declared.mutations.Write.{Write}
 use Rattle.rc_mutation.specs.Fragments.{IsParts}
 use Rattle.rc_outside.specs.Files.{Files}
+use Rattle.rc_core.specs.Chain.{flagged}
+use Rattle.rc_registry.specs.ChainKind.{ChainKind}
+use Rattle.rc_registry.specs.Continuity.{static_states}
 use Rattle.rc_registry.specs.Registry.{IsNumberIn}
+use Rattle.rc_registry.specs.Version.{Version}
 use Rattle.rc_memory.specs.Memory.{KeptChain, Memory, chain_at}
 use Rattle.rc_memory.specs.laws.Places.{no_some}
 use Rattle.rc_stream.specs.declared.streams.StreamErr.{StreamErr}
 use Rattle.rc_stream.specs.declared.streams.StreamErr.TheVariants as stream_err
 use Rattle.rc_stream.specs.Snapshot.{NoneLost}
+use Rattle.rc_cacheread.specs.Passing.{IsKnownFrom}
+use Rattle.rc_snapshots.specs.Snapshots.{IsKnownAs}
+use Rattle.rc_snapshots.specs.Streams.{first_position}
 use Rattle.rc_lookup.specs.Entries.{AreEntries, IsCached}
 use Rattle.rc_lookup.specs.Fillers.{losses}
 use Rattle.rc_lookup.specs.Found.{entry_number}
-use Rattle.rc_lookup.specs.Known.{IsChainKnown, IsPartitionKnown}
+use Rattle.rc_lookup.specs.Known.{IsPartitionKnown}
 use Rattle.rc_lookup.specs.Memtables.{HaveWrites}
 use Rattle.rc_lookup.specs.Staying.{IsEntryStill}
 use Rattle.rc_lookup.specs.Unstored.{Unstored}
@@ -29,12 +36,13 @@ use Rattle.rc_lookup.specs.Writes.{HasWrites, chain_of, names}
 use Rattle.rc_lines.specs.declared.commands.Command.TheVariants.{Flush}
 use Rattle.rc_lines.specs.declared.commands.Reply.{Reply}
 use Rattle.rc_shard.specs.declared.shard.Shard.{Shard}
-use Rattle.rc_shard.specs.Knowing.{IsCachedWhole, IsUnwritten, StaysKnown}
+use Rattle.rc_shard.specs.Knowing.{IsCachedWhere, IsCachedWhole, IsChainWhere, IsKnownStill, IsUnwritten, StaysKnown}
 use Rattle.rc_shard.specs.calls.Caching.{AreOthers, Forgets, HasCache, LeavesCache}
 use Rattle.rc_shard.specs.calls.Keeping.{TellsOf}
 use Rattle.rc_shard.specs.calls.Looking.{AreKnownStill, IsCacheLeft, UnlessMemory}
 use Rattle.rc_shard.specs.calls.Storing.{IsFlushAnswered, IsTableStored}
 use Rattle.rc_shard.proofs.Forgotten.{differ, entry-still, key-is, key-itself}
+use Rattle.rc_shard.proofs.Looking.{some-known}
 use Rattle.rc_shard.proofs.Numbered.{either}
 
 -- ---- one entry
@@ -47,37 +55,76 @@ some-entry : (o : Option ℕ) (P : ℕ → Type 0) → IsSomeAnd o P → (id : �
 some-entry None P h = absurd h
 some-entry (Some id) P h = (id, refl, h)
 
-not-there : (o : Option KeptChain) → o ≡ None → IsSomeAnd o (λ k. IsPartitionKnown k.chain.kind k.chain.versions) → ⊥
-not-there None e h = h
-not-there (Some k) e h = no_some k (sym e)
+not-there : (P : ChainKind → List Version → Type 0) (o : Option KeptChain) → o ≡ None → IsSomeAnd o (λ k. P k.chain.kind k.chain.versions) → ⊥
+not-there P None e h = h
+not-there P (Some k) e h = no_some k (sym e)
 
-cached-by : (entries : List (List ℕ × ℕ)) (m : Memory) (key : List ℕ) (id : ℕ) → AreEntries entries m → AreGone m → entry_number entries key ≡ Some id → IsChainKnown m id → IsCached m id
-cached-by entries m key id are gone e known = elim (are.kept key id e) [ inl cached ↦ cached | inr out ↦ absurd (not-there (chain_at m id) (gone id out) known) ]
+cached-by : (P : ChainKind → List Version → Type 0) (entries : List (List ℕ × ℕ)) (m : Memory) (key : List ℕ) (id : ℕ) → AreEntries entries m → AreGone m → entry_number entries key ≡ Some id → IsChainWhere P m id → IsCached m id
+cached-by P entries m key id are gone e known = elim (are.kept key id e) [ inl cached ↦ cached | inr out ↦ absurd (not-there P (chain_at m id) (gone id out) known) ]
 
--- what is known of an entry is known of it still
-pub whole-still : (k k' : Shard) (key : List ℕ) → AreEntries k.cache.entries k.unstored.chains → AreGone k.unstored.chains → IsEntryStill key k.cache.entries k.unstored.chains k'.cache.entries k'.unstored.chains → IsCachedWhole k key → IsCachedWhole k' key
-whole-still k k' key are gone still whole =
-    let e = some-entry (entry_number k.cache.entries key) (IsChainKnown k.unstored.chains) whole in
-    let on = cached-by k.cache.entries k.unstored.chains key e.0 are gone e.1 e.2 in
+-- what holds of the chain of an entry holds of it still
+where-still : (P : ChainKind → List Version → Type 0) (k k' : Shard) (key : List ℕ) → AreEntries k.cache.entries k.unstored.chains → AreGone k.unstored.chains → IsEntryStill key k.cache.entries k.unstored.chains k'.cache.entries k'.unstored.chains → IsCachedWhere P k key → IsCachedWhere P k' key
+where-still P k k' key are gone still known =
+    let e = some-entry (entry_number k.cache.entries key) (IsChainWhere P k.unstored.chains) known in
+    let on = cached-by P k.cache.entries k.unstored.chains key e.0 are gone e.1 e.2 in
     let x = still e.0 e.1 on in
     let now = x.1 on.kept on.there in
-    let was : IsPartitionKnown on.kept.chain.kind on.kept.chain.versions = subst (λ (o : Option KeptChain). IsSomeAnd o (λ q. IsPartitionKnown q.chain.kind q.chain.versions)) on.there e.2 in
-    let is : IsPartitionKnown now.0.chain.kind now.0.chain.versions = subst (λ q. IsPartitionKnown q now.0.chain.versions) (sym now.2.kind) (subst (IsPartitionKnown on.kept.chain.kind) (sym now.2.versions) was) in
-    let known : IsChainKnown k'.unstored.chains e.0 = subst (λ (o : Option KeptChain). IsSomeAnd o (λ q. IsPartitionKnown q.chain.kind q.chain.versions)) (sym now.1) is in
-    subst (λ o. IsSomeAnd o (IsChainKnown k'.unstored.chains)) (sym x.0) known
+    let was : P on.kept.chain.kind on.kept.chain.versions = subst (λ (o : Option KeptChain). IsSomeAnd o (λ q. P q.chain.kind q.chain.versions)) on.there e.2 in
+    let is : P now.0.chain.kind now.0.chain.versions = subst (λ q. P q now.0.chain.versions) (sym now.2.kind) (subst (P on.kept.chain.kind) (sym now.2.versions) was) in
+    let there : IsChainWhere P k'.unstored.chains e.0 = subst (λ (o : Option KeptChain). IsSomeAnd o (λ q. P q.chain.kind q.chain.versions)) (sym now.1) is in
+    subst (λ o. IsSomeAnd o (IsChainWhere P k'.unstored.chains)) (sym x.0) there
+
+-- ---- what is known of a partition
+
+-- where whatever holds of the chain of a partition holds of it still, what is known of it is known still
+pub known-where : (k k' : Shard) (key : List ℕ) → ((P : ChainKind → List Version → Type 0) → IsCachedWhere P k key → IsCachedWhere P k' key) → IsKnownStill key k k'
+known-where k k' key still = record {
+  each = λ x from to. still (λ kind versions. IsKnownFrom (IsKnownAs kind versions) first_position x);
+  static_row = still (λ kind versions. IsTrue (flagged kind (static_states versions)));
+  whole = still IsPartitionKnown;
+}
+
+pub known-itself : (k : Shard) (key : List ℕ) → IsKnownStill key k k
+known-itself k key = known-where k k key (λ P h. h)
+
+pub known-then : (k l m : Shard) (key : List ℕ) → IsKnownStill key k l → IsKnownStill key l m → IsKnownStill key k m
+known-then k l m key a b = record {
+  each = λ x from to h. b.each x from to (a.each x from to h);
+  static_row = λ h. b.static_row (a.static_row h);
+  whole = λ h. b.whole (a.whole h);
+}
+
+-- what is known of an entry is known of it still
+pub known-still : (k k' : Shard) (key : List ℕ) → AreEntries k.cache.entries k.unstored.chains → AreGone k.unstored.chains → IsEntryStill key k.cache.entries k.unstored.chains k'.cache.entries k'.unstored.chains → IsKnownStill key k k'
+known-still k k' key are gone still = known-where k k' key (λ P known. where-still P k k' key are gone still known)
+
+where-known : (P Q : ChainKind → List Version → Type 0) → ((kind : ChainKind) (versions : List Version) → P kind versions → Q kind versions) → (o : Option KeptChain) → IsSomeAnd o (λ k. P k.chain.kind k.chain.versions) → IsSomeAnd o (λ k. Q k.chain.kind k.chain.versions)
+where-known P Q f None h = absurd h
+where-known P Q f (Some k) h = f k.chain.kind k.chain.versions h
+
+where-weaker : (P Q : ChainKind → List Version → Type 0) → ((kind : ChainKind) (versions : List Version) → P kind versions → Q kind versions) → (k : Shard) (key : List ℕ) → IsCachedWhere P k key → IsCachedWhere Q k key
+where-weaker P Q f k key h = some-known (entry_number k.cache.entries key) (IsChainWhere P k.unstored.chains) (IsChainWhere Q k.unstored.chains) (λ id on. where-known P Q f (chain_at k.unstored.chains id) on) h
+
+-- of a partition of which all is known whatever was known is
+pub known-whole : (k k' : Shard) (key : List ℕ) → IsCachedWhole k' key → IsKnownStill key k k'
+known-whole k k' key whole = record {
+  each = λ x from to h. where-weaker IsPartitionKnown (λ kind versions. IsKnownFrom (IsKnownAs kind versions) first_position x) (λ kind versions p. p.each x from to) k' key whole;
+  static_row = λ h. where-weaker IsPartitionKnown (λ kind versions. IsTrue (flagged kind (static_states versions))) (λ kind versions p. p.static_row) k' key whole;
+  whole = λ h. whole;
+}
 
 -- and so is what is known of each, where the cache was left
 pub left-known : (k k' : Shard) → AreEntries k.cache.entries k.unstored.chains → AreGone k.unstored.chains → IsCacheLeft k k' → AreKnownStill k k'
-left-known k k' are gone h none key whole =
-    whole-still k k' key are gone (subst (λ es. IsEntryStill key k.cache.entries k.unstored.chains es k'.unstored.chains) (sym (ap (λ c. c.entries) h.cache)) (entry-still key k.cache.entries k.unstored.chains k'.unstored.chains (h.left.still none))) whole
+left-known k k' are gone h none key =
+    known-still k k' key are gone (subst (λ es. IsEntryStill key k.cache.entries k.unstored.chains es k'.unstored.chains) (sym (ap (λ c. c.entries) h.cache)) (entry-still key k.cache.entries k.unstored.chains k'.unstored.chains (h.left.still none)))
 
 -- ---- a partition that was read
 
 pub filled-known : (k k' : Shard) (key : List ℕ) → AreEntries k.cache.entries k.unstored.chains → AreGone k.unstored.chains → (NoneLost (losses k.unstored.chains) (losses k'.unstored.chains) → IsCachedWhole k' key) →
     (NoneLost (losses k.unstored.chains) (losses k'.unstored.chains) → (q : List ℕ) → (q ≡ key → ⊥) → IsEntryStill q k.cache.entries k.unstored.chains k'.cache.entries k'.unstored.chains) → AreKnownStill k k'
-filled-known k k' key are gone own others none q whole = either (IsCachedWhole k' q) (eq_by_cmp bytes_cmp key q)
-    (λ same. subst (IsCachedWhole k') (key-is key q same) (own none))
-    (λ off. whole-still k k' q are gone (others none q (λ e. let t : false ≡ true = sym off ∙ ap (eq_by_cmp bytes_cmp key) e ∙ key-itself key in absurd (cc))) whole)
+filled-known k k' key are gone own others none q = either (IsKnownStill q k k') (eq_by_cmp bytes_cmp key q)
+    (λ same. known-whole k k' q (subst (IsCachedWhole k') (key-is key q same) (own none)))
+    (λ off. known-still k k' q are gone (others none q (λ e. let t : false ≡ true = sym off ∙ ap (eq_by_cmp bytes_cmp key) e ∙ key-itself key in absurd (cc))))
 
 -- ---- answers
 
@@ -103,8 +150,8 @@ on-unread T stream_err.Fault (Ok reply) P h told = h
 on-unread T (stream_err.Damaged file offset) (Ok reply) P h told = h
 on-unread T stream_err.NoMemory (Ok reply) P h told = absurd told
 
-pub on-opened : (k l k' : Shard) (r : Result Reply AllocError) → (NoneLost (losses k.unstored.chains) (losses k'.unstored.chains) → NoneLost (losses k.unstored.chains) (losses l.unstored.chains)) → AreKnownStill k l → IfOk r (λ _. (q : List ℕ) → IsCachedWhole l q → IsCachedWhole k' q) → OnOk r (AreKnownStill k k')
-on-opened k l k' (Ok reply) before first since = λ none q whole. since q (first (before none) q whole)
+pub on-opened : (k l k' : Shard) (r : Result Reply AllocError) → (NoneLost (losses k.unstored.chains) (losses k'.unstored.chains) → NoneLost (losses k.unstored.chains) (losses l.unstored.chains)) → AreKnownStill k l → IfOk r (λ _. (q : List ℕ) → IsKnownStill q l k') → OnOk r (AreKnownStill k k')
+on-opened k l k' (Ok reply) before first since = λ none q. known-then k l k' q (first (before none) q) (since q)
 on-opened k l k' (Err e) before first since = tt
 
 -- ---- a flush
@@ -143,12 +190,12 @@ sealed-other schema u v (w ∷ ws) later sealed rest parts key none-sealed none-
 -- what is known of a partition that is written in no memtable is known of it still
 pub flush-known : (files files' : Option Files) (n : ℕ) (k l k' : Shard) (reply : Reply) → HasCache k.cache.entries k.unstored.chains → AreGone k.unstored.chains → l.cache ≡ k.cache → l.unstored.chains ≡ k.unstored.chains →
     ((i : IsTableStored files l n files' k') (key : List ℕ) → IsUnwritten k key → AreOthers key i.parts) → IsFlushAnswered files l n files' k' reply → StaysKnown Flush k k'
-flush-known files files' n k l k' reply has gone cache chains others (inl (fine, i)) none key un whole =
+flush-known files files' n k l k' reply has gone cache chains others (inl (fine, i)) none key un =
     let forgets : Forgets i.parts k.cache.entries k'.cache.entries k.unstored.chains k'.unstored.chains =
     subst (λ (m : Memory). Forgets i.parts k.cache.entries k'.cache.entries m k'.unstored.chains) chains (subst (λ es. Forgets i.parts es k'.cache.entries l.unstored.chains k'.unstored.chains) (ap (λ c. c.entries) cache) i.cache) in
-    whole-still k k' key has.are gone (forgets.stays has none key (others i key un)) whole
-flush-known files files' n k l k' reply has gone cache chains others (inr (fault, folder, same, kept, still)) none key un whole =
-    left-known k k' has.are gone (record { cache = same ∙ cache; left = subst (λ (m : Memory). LeavesCache m k'.unstored.chains) chains kept.cache.left }) none key whole
+    known-still k k' key has.are gone (forgets.stays has none key (others i key un))
+flush-known files files' n k l k' reply has gone cache chains others (inr (fault, folder, same, kept, still)) none key un =
+    left-known k k' has.are gone (record { cache = same ∙ cache; left = subst (λ (m : Memory). LeavesCache m k'.unstored.chains) chains kept.cache.left }) none key
 
 pub on-answered : (P : Reply → Type 0) (Q : Type 0) (r : Result Reply AllocError) → ((reply : Reply) → P reply → Q) → IfOk r P → OnOk r Q
 on-answered P Q (Ok reply) f h = f reply h

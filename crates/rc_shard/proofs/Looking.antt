@@ -7,8 +7,10 @@ use Rattle.rc_schema.specs.SchemaValue.{SchemaValue, is_schema}
 use Rattle.rc_mutation.specs.declared.mutations.Write.{Write}
 use Rattle.rc_mutation.specs.Source.{SameSource}
 use Rattle.rc_query.specs.declared.lines.OutLine.{OutLine}
+use Rattle.rc_registry.specs.ChainKind.{ChainKind}
 use Rattle.rc_registry.specs.ChainKind.TheVariants.{Cache, Memtable}
 use Rattle.rc_registry.specs.Steps.{pin_at}
+use Rattle.rc_registry.specs.Version.{Version}
 use Rattle.rc_memory.specs.Memory.{HasPin, KeptChain, Memory, chain_at, snapshot_number, with_snapshot}
 use Rattle.rc_memory.specs.laws.Places.{same_some}
 use Rattle.rc_chain.specs.declared.chains.Snap.{Snap}
@@ -27,7 +29,6 @@ use Rattle.rc_lookup.specs.Entries.{AreEntries}
 use Rattle.rc_lookup.specs.Found.{IsForgotten}
 use Rattle.rc_lookup.specs.Saying.{Below, CacheSays}
 use Rattle.rc_lookup.specs.Footprint.{memtable_bytes}
-use Rattle.rc_lookup.specs.Known.{IsChainKnown, IsPartitionKnown}
 use Rattle.rc_lookup.specs.Rest.{LeavesRest}
 use Rattle.rc_lookup.specs.Looked.{IsCacheOver, IsPartitionFound}
 use Rattle.rc_opened.specs.declared.opened.Opened.{Opened}
@@ -36,6 +37,7 @@ use Rattle.rc_folder.specs.Tabled.{Tabled}
 use Rattle.rc_machine.specs.State.{State}
 use Rattle.rc_shard.specs.declared.shard.Shard.{Shard}
 use Rattle.rc_shard.specs.Cached.{AreUntaken, HaveCached}
+use Rattle.rc_shard.specs.Knowing.{IsChainWhere}
 use Rattle.rc_shard.specs.Stands.{AreFor}
 use Rattle.rc_shard.specs.calls.Keeping.{CountsStay}
 use Rattle.rc_shard.specs.calls.Looking.{IsCacheUsed, IsTabled}
@@ -194,33 +196,33 @@ cached-looked schema a b m n st r says are gone h = record {
 
 -- ---- what is known
 
-abbrev KnownIn : Option KeptChain → Type 0
-KnownIn o = IsSomeAnd o (λ k. IsPartitionKnown k.chain.kind k.chain.versions)
+abbrev ChainIn : (ChainKind → List Version → Type 0) → Option KeptChain → Type 0
+ChainIn P o = IsSomeAnd o (λ k. P k.chain.kind k.chain.versions)
 
-pinned-known : (o : Option KeptChain) → KnownIn o → KnownIn (option_map (λ k. with_snapshot (snapshot_number k.chain) k) o)
-pinned-known None h = absurd h
-pinned-known (Some k) h = h
+pinned-known : (P : ChainKind → List Version → Type 0) (o : Option KeptChain) → ChainIn P o → ChainIn P (option_map (λ k. with_snapshot (snapshot_number k.chain) k) o)
+pinned-known P None h = absurd h
+pinned-known P (Some k) h = h
 
 -- a snapshot that was taken takes nothing from what a chain knows
-known-taken : (m n : Memory) (taken : Option Snap) → IsTakenIf m n taken → (id : ℕ) → IsChainKnown m id → IsChainKnown n id
-known-taken m n None same id h = subst (λ (x : Memory). IsChainKnown x id) (sym same) h
-known-taken m n (Some s) taken id h =
+known-taken : (P : ChainKind → List Version → Type 0) (m n : Memory) (taken : Option Snap) → IsTakenIf m n taken → (id : ℕ) → IsChainWhere P m id → IsChainWhere P n id
+known-taken P m n None same id h = subst (λ (x : Memory). IsChainWhere P x id) (sym same) h
+known-taken P m n (Some s) taken id h =
     let is = ap (λ (x : Memory). x.chains) taken.now in
     let now = option_map (λ k. with_snapshot (snapshot_number k.chain) k) (chain_at m s.chain) in
-    here-or-beside (λ i. KnownIn (chain_at m i) → KnownIn (chain_at n i)) s.chain id
-    (λ on. subst KnownIn (sym (chain-here m n s.chain now is)) (pinned-known (chain_at m s.chain) on))
-    (λ ne on. subst KnownIn (sym (chain-beside m n s.chain now is id ne)) on) h
+    here-or-beside (λ i. ChainIn P (chain_at m i) → ChainIn P (chain_at n i)) s.chain id
+    (λ on. subst (ChainIn P) (sym (chain-here m n s.chain now is)) (pinned-known P (chain_at m s.chain) on))
+    (λ ne on. subst (ChainIn P) (sym (chain-beside m n s.chain now is id ne)) on) h
 
 pub same-recency : (m n : Memory) (taken : Option Snap) → IsTakenIf m n taken → n.recency ≡ m.recency
 same-recency m n None same = ap (λ (x : Memory). x.recency) same
 same-recency m n (Some s) taken = ap (λ (x : Memory). x.recency) taken.now
 
-some-known : (o : Option ℕ) (P Q : ℕ → Type 0) → ((id : ℕ) → P id → Q id) → IsSomeAnd o P → IsSomeAnd o Q
+pub some-known : (o : Option ℕ) (P Q : ℕ → Type 0) → ((id : ℕ) → P id → Q id) → IsSomeAnd o P → IsSomeAnd o Q
 some-known None P Q f h = absurd h
 some-known (Some id) P Q f h = f id h
 
-pub known-pinned : (entry : Option ℕ) (m mid n : Memory) (first second : Option Snap) → IsTakenIf m mid first → IsTakenIf mid n second → IsSomeAnd entry (IsChainKnown m) → IsSomeAnd entry (IsChainKnown n)
-known-pinned entry m mid n first second a b h = some-known entry (IsChainKnown m) (IsChainKnown n) (λ id k. known-taken mid n second b id (known-taken m mid first a id k)) h
+pub known-pinned : (entry : Option ℕ) (m mid n : Memory) (first second : Option Snap) → IsTakenIf m mid first → IsTakenIf mid n second → (P : ChainKind → List Version → Type 0) → IsSomeAnd entry (IsChainWhere P m) → IsSomeAnd entry (IsChainWhere P n)
+known-pinned entry m mid n first second a b P h = some-known entry (IsChainWhere P m) (IsChainWhere P n) (λ id k. known-taken P mid n second b id (known-taken P m mid first a id k)) h
 
 -- ---- what a shard stands for
 

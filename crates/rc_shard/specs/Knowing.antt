@@ -1,5 +1,7 @@
--- What the row cache of a shard knows, whole, and what an opening has of that.
+-- What the row cache of a shard knows of a partition, and what an opening has of that.
 --     IsCachedWhole          all of a partition is known
+--     IsChainWhere, IsCachedWhere    of the chain of a partition something holds
+--     IsCachedAt, IsStaticCached     a position is known, or the static row
 --     OnOpening, OnOpened    what holds of an opening's key, and where a reader was opened
 --     AsksNothingWhereKnown  a partition that is known is opened without asking the store
 --     IsKnownOnceOpened      a partition that was opened is known
@@ -8,9 +10,18 @@
 --     IsReaderTouched    the rows of lines are the most recent ones of a reader's partition
 --     IsTouchedAsGiven   so those are that a read gives
 --     IsUnwritten, Spares    a partition that no memtable has; which partitions a command leaves
---     StaysKnown             what is known stays known
-use Rattle.std.specs.Prelude.{◌≡◌, ◌==◌, ℕ, IfSome, IsSomeAnd, List, None, ⊤}
+--     IsKnownStill, StaysKnown    what is known stays known
+use Rattle.std.specs.Prelude.{◌≡◌, ◌==◌, ℕ, IfSome, IsSomeAnd, IsTrue, List, None, ⊤}
 use Rattle.std.specs.Map.{lookup}
+use Rattle.rc_position.specs.declared.positions.Pos.{Pos}
+use Rattle.rc_core.specs.Chain.{flagged}
+use Rattle.rc_registry.specs.ChainKind.{ChainKind}
+use Rattle.rc_registry.specs.Continuity.{static_states}
+use Rattle.rc_registry.specs.Version.{Version, end_position}
+use Rattle.rc_memory.specs.Memory.{Memory, chain_at}
+use Rattle.rc_cacheread.specs.Passing.{IsKnownFrom}
+use Rattle.rc_snapshots.specs.Snapshots.{IsKnownAs}
+use Rattle.rc_snapshots.specs.Streams.{first_position}
 use Rattle.rc_query.specs.declared.lines.OutLine.{OutLine}
 use Rattle.rc_lines.specs.declared.commands.Command.{Command}
 use Rattle.rc_lines.specs.declared.commands.Command.TheVariants.{Flush, OpenRead, Read}
@@ -18,7 +29,7 @@ use Rattle.rc_lines.specs.declared.commands.Reply.{Reply}
 use Rattle.rc_lines.specs.declared.commands.Reply.TheVariants.{Fine, Given}
 use Rattle.rc_lookup.specs.Found.{entry_number}
 use Rattle.rc_lookup.specs.Fillers.{losses}
-use Rattle.rc_stream.specs.Snapshot.{NoneLost}
+use Rattle.rc_stream.specs.Snapshot.{NoneLost, Throughout}
 use Rattle.rc_lookup.specs.Known.{IsChainKnown}
 use Rattle.rc_lookup.specs.Touched.{AreTouched, IsEntryOfGiven, IsMadeRecent}
 use Rattle.rc_lookup.specs.Writes.{chain_of}
@@ -28,6 +39,22 @@ use Rattle.rc_shard.specs.declared.shard.Shard.{Shard}
 -- the row cache knows all of a partition: its static row, and each row and each gap between rows
 abbrev pub IsCachedWhole : Shard → List ℕ → Type 0
 IsCachedWhole k key = IsSomeAnd (entry_number k.cache.entries key) (IsChainKnown k.unstored.chains)
+
+-- a chain is there, and of its kind and its versions this holds
+abbrev pub IsChainWhere : (ChainKind → List Version → Type 0) → Memory → ℕ → Type 0
+IsChainWhere P m id = IsSomeAnd (chain_at m id) (λ k. P k.chain.kind k.chain.versions)
+
+-- so it does of the chain of a partition in the row cache
+abbrev pub IsCachedWhere : (ChainKind → List Version → Type 0) → Shard → List ℕ → Type 0
+IsCachedWhere P k key = IsSomeAnd (entry_number k.cache.entries key) (IsChainWhere P k.unstored.chains)
+
+-- the row cache knows a partition at a position, or the row inside which that is
+abbrev pub IsCachedAt : Shard → List ℕ → Pos → Type 0
+IsCachedAt k key x = IsCachedWhere (λ kind versions. IsKnownFrom (IsKnownAs kind versions) first_position x) k key
+
+-- the row cache knows the static row of a partition
+abbrev pub IsStaticCached : Shard → List ℕ → Type 0
+IsStaticCached k key = IsCachedWhere (λ kind versions. IsTrue (flagged kind (static_states versions))) k key
 
 -- of the key of an opening this holds
 abbrev pub OnOpening : Command → (List ℕ → Type 0) → Type 0
@@ -75,6 +102,12 @@ abbrev pub Spares : Command → Shard → List ℕ → Type 0
 Spares Flush k key = IsUnwritten k key
 Spares command k key = ⊤
 
--- What the row cache knows whole it knows whole still, unless something of it was evicted or not taken in meanwhile, or written to a table.
+-- what the row cache knew of a partition it knows still: each position, the static row, and all of it
+pub record IsKnownStill (key : List ℕ) (old new : Shard) : Type 0 where
+  pub each : Throughout first_position end_position (λ x. IsCachedAt old key x → IsCachedAt new key x)
+  pub static_row : IsStaticCached old key → IsStaticCached new key
+  pub whole : IsCachedWhole old key → IsCachedWhole new key
+
+-- What the row cache knows of a partition it knows still, unless something of the cache was evicted or not taken in meanwhile, or the partition was written to a table. So a partition of which anything is known is there still.
 abbrev pub StaysKnown : Command → Shard → Shard → Type 0
-StaysKnown command k k' = NoneLost (losses k.unstored.chains) (losses k'.unstored.chains) → (key : List ℕ) → Spares command k key → IsCachedWhole k key → IsCachedWhole k' key
+StaysKnown command k k' = NoneLost (losses k.unstored.chains) (losses k'.unstored.chains) → (key : List ℕ) → Spares command k key → IsKnownStill key k k'

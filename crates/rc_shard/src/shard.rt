@@ -37,7 +37,7 @@ ghost use Rattle.rc_shard.specs.Counting.{figures_of};
 ghost use Rattle.rc_shard.specs.Compacting.{IsCompactedAsTold};
 ghost use Rattle.rc_shard.specs.Evicting.{IsEvictedAsTold, IsLostAsTold};
 ghost use Rattle.rc_shard.specs.Losing.{IsLostInCrowd, LosesForWrite, LosesInCrowd};
-ghost use Rattle.rc_shard.specs.Knowing.{AsksNothingWhereKnown, IsCachedWhole, IsKnownOnceOpened, IsPartitionRecent, IsRecentOnceHit, IsTouchedAsGiven, StaysKnown};
+ghost use Rattle.rc_shard.specs.Knowing.{AsksNothingWhereKnown, IsCachedWhole, IsKnownOnceOpened, IsKnownStill, IsPartitionRecent, IsRecentOnceHit, IsTouchedAsGiven, StaysKnown};
 ghost use Rattle.rc_shard.specs.Opening.{IsOnePinned, IsOpenedAsTold, PinsPartition};
 ghost use Rattle.rc_shard.specs.Stands.{AreOfTwo, AreTwo, IsFullAsTold, holding};
 ghost use Rattle.rc_shard.specs.calls.Keeping.{CountsStay, Keeps, TellsOf};
@@ -381,7 +381,7 @@ impl Shard {
         ensures says { (files : Option Files) (m : State) → ⟦<Shard as Machine>⟧.stands files self.old m → IfOk result (λ o. IfSome o (IsTabled m key.now)) }
         ensures known { IsCachedWhole self.old key.now → IfOk result IsSome }
         ensures whole { IfOk result (λ o. IfSome o (λ _. IsCachedWhole self.new key.now)) }
-        ensures stays { (q : List ℕ) → IsCachedWhole self.old q → IsCachedWhole self.new q }
+        ensures stays { (q : List ℕ) → IsKnownStill q self.old self.new }
         ensures hit { IfOk result (λ o. IfSome o (λ _. IsPartitionRecent key.now self.old self.new)) }
         ensures keeps { Keeps ⟦<Shard as Machine>⟧.stands self.old self.new }
         ensures loses { LosesWhereCrowded 131072 0 self.old.unstored.chains self.new.unstored.chains }
@@ -470,7 +470,7 @@ impl Shard {
         ensures pins { IfOk result (λ _. IsOnePinned id key.now self.old.readers.items self.old.unstored self.new.readers.items self.new.unstored) }
         ensures opened { (files : Option Files) (m : State) → ⟦<Shard as Machine>⟧.stands files self.old m → (told : IsTabled m key.now tables) →
             IfOk result (λ _. ⟦<Shard as Machine>⟧.stands files self.new (record m { readers = m.readers ++ (id, reader_with m key.now slice.now told.said) ∷ [] })) }
-        ensures whole { IfOk result (λ _. (q : List ℕ) → IsCachedWhole self.old q → IsCachedWhole self.new q) }
+        ensures stays { IfOk result (λ _. (q : List ℕ) → IsKnownStill q self.old self.new) }
         ensures recency { IfOk result (λ _. (self.new.cache.entries ≡ self.old.cache.entries) × (self.new.unstored.chains.recency ≡ self.old.unstored.chains.recency)) }
         ensures loses { OnOk result (LosesWhereCrowded 131072 0 self.old.unstored.chains self.new.unstored.chains) }
         ensures err { OnErr result (Keeps ⟦<Shard as Machine>⟧.stands self.old self.new) }

@@ -20,7 +20,7 @@ use Rattle.rc_machine.specs.Steps.{IsSaid}
 use Rattle.rc_lookup.specs.Fillers.{losses}
 use Rattle.rc_stream.specs.Snapshot.{NoneLost}
 use Rattle.rc_shard.specs.declared.shard.Shard.{Shard}
-use Rattle.rc_shard.specs.Knowing.{IsCachedWhole}
+use Rattle.rc_shard.specs.Knowing.{IsKnownStill}
 use Rattle.rc_shard.specs.calls.Caching.{LeavesCache}
 
 -- a stream is that of the fragments of a mutation, from the beginning, to which what the tables say of a key joins
@@ -47,9 +47,9 @@ pub record IsCacheLeft (old new : Shard) : Type 0 where
   pub cache : new.cache ≡ old.cache
   pub left : LeavesCache old.unstored.chains new.unstored.chains
 
--- what is known whole is known whole still, where nothing was lost
+-- what is known of a partition is known of it still, where nothing was lost
 abbrev pub AreKnownStill : Shard → Shard → Type 0
-AreKnownStill old new = NoneLost (losses old.unstored.chains) (losses new.unstored.chains) → (key : List ℕ) → IsCachedWhole old key → IsCachedWhole new key
+AreKnownStill old new = NoneLost (losses old.unstored.chains) (losses new.unstored.chains) → (key : List ℕ) → IsKnownStill key old new
 
 -- so much holds, unless memory was refused
 abbrev pub UnlessMemory : {T : Type 0} → Result T StreamErr → Type 0 → Type 0

@@ -6,7 +6,7 @@ use Rattle.rc_shard.specs.declared.shard.Shard.{Shard}
 use Rattle.rc_lines.specs.declared.commands.Command.TheVariants.{Flush}
 use Rattle.rc_shard.specs.Knowing.{StaysKnown}
 use Rattle.rc_shard.specs.calls.Caching.{HasCache}
-use Rattle.rc_shard.proofs.Known.{flush-known, on-answered, sealed-other}
+use Rattle.rc_shard.proofs.Known.{flush-known, known-itself, on-answered, sealed-other}
 use Rattle.rc_shard.proofs.Flushing.{not-true, sealed-for, stops-sealed, takes-no-flush, takes-written}
 use Rattle.rc_shard.proofs.Looking.{on-ok-weaker}
 use Rattle.rc_shard.proofs.Standing.{if-ok-weaker, on-err-weaker}
@@ -58,10 +58,10 @@ returns-in-Some-clause-counts g c =
 -- ---- what is known still
 
 pub returns-then-is_empty-clause-stays : goal.returns-then-is_empty-clause-stays
-returns-then-is_empty-clause-stays g c = λ none key un whole. whole
+returns-then-is_empty-clause-stays g c = λ none key un. known-itself c.args.self.now key
 
 pub returns-in-None-clause-stays : goal.returns-in-None-clause-stays
-returns-in-None-clause-stays g c = λ none key un whole. whole
+returns-in-None-clause-stays g c = λ none key un. known-itself c.args.self.now key
 
 pub returns-in-Some-clause-stays : goal.returns-in-Some-clause-stays
 returns-in-Some-clause-stays g c =

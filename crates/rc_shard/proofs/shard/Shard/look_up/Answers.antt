@@ -4,7 +4,7 @@ use Rattle.std.specs.Prelude.{IsTrue}
 use Rattle.rc_schema.specs.SchemaValue.{SchemaValue, is_schema}
 use Rattle.rc_lookup.specs.Writes.{AreSmall}
 use Rattle.rc_lookup.specs.Memtables.{in_chains}
-use Rattle.rc_shard.proofs.Known.{whole-still}
+use Rattle.rc_shard.proofs.Known.{known-still}
 use Rattle.rc_shard.proofs.Looking.{cached-looked, if-found, over-of, tabled-of, used-for}
 use Rattle.rc_shard.proofs.shard.Shard.look_up.Goals as goal
 
@@ -36,7 +36,7 @@ pub returns-clause-beside : goal.returns-clause-beside
 returns-clause-beside c = record { rest = c.lookup.ensures.rest; keys = record { sealed = refl; active = refl }; folder = refl; readers = refl; answered = refl; segments = refl; asked = refl }
 
 pub returns-clause-stays : goal.returns-clause-stays
-returns-clause-stays c = λ q whole. whole-still c.args.self.now (record c.args.self.now { cache = c.lookup.new.cache; unstored = in_chains c.lookup.new.chains c.args.self.now.unstored }) q c.requires.2.cached.are c.known.ensures.told (c.lookup.ensures.stays q) whole
+returns-clause-stays c = λ q. known-still c.args.self.now (record c.args.self.now { cache = c.lookup.new.cache; unstored = in_chains c.lookup.new.chains c.args.self.now.unstored }) q c.requires.2.cached.are c.known.ensures.told (c.lookup.ensures.stays q)
 
 pub returns-clause-loses : goal.returns-clause-loses
 returns-clause-loses c = c.lookup.ensures.loses

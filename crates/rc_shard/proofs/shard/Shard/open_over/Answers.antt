@@ -5,6 +5,7 @@ use Rattle.rc_opened.specs.declared.opened.Opened.{Opened}
 use Rattle.rc_opened.specs.Opened.{snaps_of}
 use Rattle.rc_shard.proofs.Losing.{pinned-loses}
 use Rattle.rc_shard.specs.declared.shard.Shard.{Shard}
+use Rattle.rc_shard.proofs.Known.{known-where}
 use Rattle.rc_shard.proofs.Looking.{known-pinned, same-recency}
 use Rattle.rc_shard.proofs.Opening.{opens-reader}
 use Rattle.rc_shard.proofs.Standing.{on-err}
@@ -41,11 +42,12 @@ returns-clause-pins c =
     let items : c.push.new.self.items ≡ c.args.self.now.readers.items ++ (c.args.id, x) ∷ [] = c.in-Ok.ensures.items ∙ ap (λ (os : List (ℕ × Opened)). os ++ (c.args.id, x) ∷ []) c.reserve.ensures.items in
     (x, items, c.in_ok-opened.ensures.pins)
 
-pub returns-clause-whole : goal.returns-clause-whole
-returns-clause-whole c = λ q whole.
+pub returns-clause-stays : goal.returns-clause-stays
+returns-clause-stays c = λ q.
     let took = c.in_ok-opened.ensures.pins.exact in
     let snaps = snaps_of c.in_ok-opened.opened in
-    known-pinned (entry_number c.args.self.now.cache.entries q) c.args.self.now.unstored.chains took.0 c.open_in.new.unstored.chains snaps.sealed snaps.active took.1 took.2 whole
+    let new : Shard = record c.args.self.now { unstored = c.open_in.new.unstored; readers = c.push.new.self } in
+    known-where c.args.self.now new q (λ P h. known-pinned (entry_number c.args.self.now.cache.entries q) c.args.self.now.unstored.chains took.0 c.open_in.new.unstored.chains snaps.sealed snaps.active took.1 took.2 P h)
 
 pub returns-clause-recency : goal.returns-clause-recency
 returns-clause-recency c =

@@ -8,7 +8,7 @@ use Rattle.rc_shard.proofs.Losing.{crowded-since}
 use Rattle.rc_shard.proofs.Counted.{counts-itself}
 use Rattle.rc_shard.proofs.Looking.{counts-behind, counts-used, lost-within, no-count, on-ok, on-ok-weaker}
 use Rattle.rc_shard.specs.calls.Looking.{AreKnownStill, UnlessMemory}
-use Rattle.rc_shard.proofs.Known.{on-opened, on-unread}
+use Rattle.rc_shard.proofs.Known.{known-itself, on-opened, on-unread}
 use Rattle.rc_shard.proofs.Pinned.{filled-opened, filled-unread, recent-opened, recent-unread, told-opened, told-unread}
 use Rattle.rc_shard.proofs.Places.{nowhere-of, open-none, open-some}
 use Rattle.rc_shard.proofs.Standing.{if-ok-weaker, on-err, on-err-weaker}
@@ -100,7 +100,7 @@ returns-in-Ok-clause-filled g c =
     let old = c.args.self.now.unstored.chains in
     let mid = c.tables_of.new.self.unstored.chains in
     let new = c.open_over.new.self.unstored.chains in
-    filled-opened c.args.id c.args.key.now c.args.slice.now c.args.self.now c.tables_of.new.self c.open_over.new.self c.open_over.result c.open_over.ensures.fine (if-ok-weaker c.open_over.result _ _ (λ _ h. h c.args.key.now) c.open_over.ensures.whole)
+    filled-opened c.args.id c.args.key.now c.args.slice.now c.args.self.now c.tables_of.new.self c.open_over.new.self c.open_over.result c.open_over.ensures.fine (if-ok-weaker c.open_over.result _ _ (λ _ h. (h c.args.key.now).whole) c.open_over.ensures.stays)
     (λ none. c.in-Ok.ensures.whole (lost-within old old mid new (no-count old) c.tables_of.ensures.beside.rest.counts c.open_over.ensures.counts.none_fell none))
 
 pub returns-in-Err-clause-filled : goal.returns-in-Err-clause-filled
@@ -109,10 +109,10 @@ returns-in-Err-clause-filled g c = filled-unread c.args.id c.args.key.now c.args
 -- ---- what is known still, and what is recent
 
 pub returns-then-is_some-clause-stays : goal.returns-then-is_some-clause-stays
-returns-then-is_some-clause-stays g c = λ none q whole. whole
+returns-then-is_some-clause-stays g c = λ none q. known-itself c.args.self.now q
 
 pub returns-then-len-ge-MOST_READERS-clause-stays : goal.returns-then-len-ge-MOST_READERS-clause-stays
-returns-then-len-ge-MOST_READERS-clause-stays g c = λ none q whole. whole
+returns-then-len-ge-MOST_READERS-clause-stays g c = λ none q. known-itself c.args.self.now q
 
 pub returns-in-Ok-clause-stays : goal.returns-in-Ok-clause-stays
 returns-in-Ok-clause-stays g c =
@@ -120,7 +120,7 @@ returns-in-Ok-clause-stays g c =
     let mid = c.tables_of.new.self.unstored.chains in
     let new = c.open_over.new.self.unstored.chains in
     on-opened c.args.self.now c.tables_of.new.self c.open_over.new.self c.open_over.result (lost-within old old mid new (no-count old) c.tables_of.ensures.beside.rest.counts c.open_over.ensures.counts.none_fell)
-    (subst (λ r. UnlessMemory r (AreKnownStill c.args.self.now c.tables_of.new.self)) c.in-Ok.is c.tables_of.ensures.stays) c.open_over.ensures.whole
+    (subst (λ r. UnlessMemory r (AreKnownStill c.args.self.now c.tables_of.new.self)) c.in-Ok.is c.tables_of.ensures.stays) c.open_over.ensures.stays
 
 pub returns-in-Err-clause-stays : goal.returns-in-Err-clause-stays
 returns-in-Err-clause-stays g c =

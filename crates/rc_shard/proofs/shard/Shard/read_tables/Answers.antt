@@ -8,7 +8,7 @@ use Rattle.rc_lookup.specs.Losing.{loses-wider}
 use Rattle.rc_shard.proofs.Filled.{cause-of, no-damage, read-cause, read-fits}
 use Rattle.std.specs.Prelude.{Err}
 use Rattle.rc_shard.specs.calls.Looking.{AreKnownStill}
-use Rattle.rc_shard.proofs.Known.{unless-all, unless-ok}
+use Rattle.rc_shard.proofs.Known.{known-itself, unless-all, unless-ok}
 use Rattle.rc_shard.proofs.Looking.{used-itself}
 use Rattle.rc_shard.proofs.Standing.{if-ok-weaker}
 use Rattle.rc_shard.proofs.shard.Shard.read_tables.Goals as goal
@@ -59,7 +59,7 @@ pub returns-in-Ok-clause-stays : goal.returns-in-Ok-clause-stays
 returns-in-Ok-clause-stays g c = unless-ok c.fill.result _ c.fill.ensures.stays c.fill.ensures.refused
 
 pub returns-in-Err-clause-stays : goal.returns-in-Err-clause-stays
-returns-in-Err-clause-stays g c = unless-all {T = Stream} (Err c.in-Err.error) (AreKnownStill c.args.self.now c.args.self.now) (λ none q whole. whole)
+returns-in-Err-clause-stays g c = unless-all {T = Stream} (Err c.in-Err.error) (AreKnownStill c.args.self.now c.args.self.now) (λ none q. known-itself c.args.self.now q)
 
 pub returns-in-Ok-clause-loses : goal.returns-in-Ok-clause-loses
 returns-in-Ok-clause-loses g c = c.fill.ensures.loses

@@ -8,7 +8,7 @@ use Rattle.rc_lines.specs.declared.commands.Figures.{Figures}
 use Rattle.rc_memory.specs.declared.counts.Counts.{Counts}
 use Rattle.rc_shard.proofs.Evicted.{none-skipped}
 use Rattle.rc_shard.proofs.Counted.{counts-itself, if-ok-all, make-budget}
-use Rattle.rc_shard.proofs.Known.{left-known}
+use Rattle.rc_shard.proofs.Known.{known-itself, left-known}
 use Rattle.rc_shard.proofs.Looking.{on-ok, on-ok-weaker}
 
 pub returns-in-SetSchema-clause-step : goal.returns-in-SetSchema-clause-step
@@ -185,38 +185,38 @@ returns-in-Flush-clause-touches g c = rw (c.in-Flush.is) (if-ok-all c.flush.resu
 
 -- what is known still
 pub returns-in-Nothing-clause-stays : goal.returns-in-Nothing-clause-stays
-returns-in-Nothing-clause-stays g c = λ none key spared whole. whole
+returns-in-Nothing-clause-stays g c = λ none key spared. known-itself c.args.self.now key
 
 pub returns-in-SetSchema-clause-stays : goal.returns-in-SetSchema-clause-stays
-returns-in-SetSchema-clause-stays g c = λ none key spared whole. whole
+returns-in-SetSchema-clause-stays g c = λ none key spared. known-itself c.args.self.now key
 
 pub returns-in-Stats-clause-stays : goal.returns-in-Stats-clause-stays
-returns-in-Stats-clause-stays g c = λ none key spared whole. whole
+returns-in-Stats-clause-stays g c = λ none key spared. known-itself c.args.self.now key
 
 pub returns-in-Put-clause-stays : goal.returns-in-Put-clause-stays
-returns-in-Put-clause-stays g c = on-ok c.put.result _ (λ none key spared whole. left-known c.args.self.now c.put.new.self c.requires.stands.1.cached.are c.known.ensures.told c.put.ensures.left none key whole)
+returns-in-Put-clause-stays g c = on-ok c.put.result _ (λ none key spared. left-known c.args.self.now c.put.new.self c.requires.stands.1.cached.are c.known.ensures.told c.put.ensures.left none key)
 
 pub returns-in-Read-clause-stays : goal.returns-in-Read-clause-stays
-returns-in-Read-clause-stays g c = on-ok c.read.result _ (λ none key spared whole. left-known c.args.self.now c.read.new.self c.requires.stands.1.cached.are c.known.ensures.told c.read.ensures.left none key whole)
+returns-in-Read-clause-stays g c = on-ok c.read.result _ (λ none key spared. left-known c.args.self.now c.read.new.self c.requires.stands.1.cached.are c.known.ensures.told c.read.ensures.left none key)
 
 pub returns-in-Close-clause-stays : goal.returns-in-Close-clause-stays
-returns-in-Close-clause-stays g c = λ none key spared whole. left-known c.args.self.now c.close_reader.new.self c.requires.stands.1.cached.are c.known.ensures.told c.close_reader.ensures.left none key whole
+returns-in-Close-clause-stays g c = λ none key spared. left-known c.args.self.now c.close_reader.new.self c.requires.stands.1.cached.are c.known.ensures.told c.close_reader.ensures.left none key
 
 pub returns-in-OpenRead-clause-stays : goal.returns-in-OpenRead-clause-stays
-returns-in-OpenRead-clause-stays g c = on-ok-weaker c.open_read.result _ _ (λ h none key spared whole. h none key whole) c.open_read.ensures.stays
+returns-in-OpenRead-clause-stays g c = on-ok-weaker c.open_read.result _ _ (λ h none key spared. h none key) c.open_read.ensures.stays
 
 pub returns-in-Flush-clause-stays : goal.returns-in-Flush-clause-stays
 returns-in-Flush-clause-stays g c = rw (c.in-Flush.is) c.flush.ensures.stays
 
 pub returns-in-Evict-clause-stays : goal.returns-in-Evict-clause-stays
-returns-in-Evict-clause-stays g c = λ none key spared whole.
+returns-in-Evict-clause-stays g c = λ none key spared.
     let new : Shard = record c.args.self.now { unstored = c.evict.new.unstored } in
-    left-known c.args.self.now new c.requires.stands.1.cached.are c.known.ensures.told (record { cache = refl; left = (c.evict.ensures.kept c.args.self.now.folder.schema).cache.left }) none key whole
+    left-known c.args.self.now new c.requires.stands.1.cached.are c.known.ensures.told (record { cache = refl; left = (c.evict.ensures.kept c.args.self.now.folder.schema).cache.left }) none key
 
 pub returns-in-Compact-clause-stays : goal.returns-in-Compact-clause-stays
-returns-in-Compact-clause-stays g c = λ none key spared whole.
+returns-in-Compact-clause-stays g c = λ none key spared.
     let new : Shard = record c.args.self.now { unstored = c.compact.new.unstored } in
-    left-known c.args.self.now new c.requires.stands.1.cached.are c.known.ensures.told (record { cache = refl; left = (c.compact.ensures.kept c.args.self.now.folder.schema).cache.left }) none key whole
+    left-known c.args.self.now new c.requires.stands.1.cached.are c.known.ensures.told (record { cache = refl; left = (c.compact.ensures.kept c.args.self.now.folder.schema).cache.left }) none key
 
 -- by which commands nothing is lost
 pub returns-in-Nothing-clause-loses : goal.returns-in-Nothing-clause-loses

@@ -7,7 +7,7 @@ use Rattle.rc_lookup.specs.Crowds.{loses-after}
 use Rattle.rc_lookup.specs.Losing.{loses-wider}
 use Rattle.rc_shard.specs.Knowing.{IsCachedWhole, IsPartitionRecent}
 use Rattle.rc_shard.specs.calls.Looking.{AreKnownStill, IsTabled}
-use Rattle.rc_shard.proofs.Known.{unless-weaker}
+use Rattle.rc_shard.proofs.Known.{known-then, unless-weaker}
 use Rattle.rc_shard.proofs.Looking.{lost-within, no-count, none-some, on-ok, on-ok-weaker, used-then}
 use Rattle.rc_shard.proofs.shard.Shard.tables_of.Goals as goal
 
@@ -52,7 +52,7 @@ pub returns-in-Ok-None-clause-asks : goal.returns-in-Ok-None-clause-asks
 returns-in-Ok-None-clause-asks g c = subst (λ (f : Tabled). g.W.Store.asks c.read_tables.new.store ≤ g.W.Store.asks c.args.store.now + 2 * listing c.args.key.now f.infos) c.look_up.ensures.beside.folder c.read_tables.ensures.asks
 
 pub returns-in-Ok-Some-clause-stays : goal.returns-in-Ok-Some-clause-stays
-returns-in-Ok-Some-clause-stays g c = λ none q whole. c.look_up.ensures.stays q whole
+returns-in-Ok-Some-clause-stays g c = λ none q. c.look_up.ensures.stays q
 
 pub returns-in-Ok-None-clause-stays : goal.returns-in-Ok-None-clause-stays
 returns-in-Ok-None-clause-stays g c =
@@ -60,7 +60,7 @@ returns-in-Ok-None-clause-stays g c =
     let mid = c.look_up.new.self.unstored.chains in
     let new = c.read_tables.new.self.unstored.chains in
     unless-weaker c.read_tables.result (AreKnownStill c.look_up.new.self c.read_tables.new.self) (AreKnownStill c.args.self.now c.read_tables.new.self)
-    (λ h none q whole. h (lost-within old mid new new c.look_up.ensures.beside.rest.counts c.read_tables.ensures.beside.rest.counts (no-count new) none) q (c.look_up.ensures.stays q whole)) c.read_tables.ensures.stays
+    (λ h none q. known-then c.args.self.now c.look_up.new.self c.read_tables.new.self q (c.look_up.ensures.stays q) (h (lost-within old mid new new c.look_up.ensures.beside.rest.counts c.read_tables.ensures.beside.rest.counts (no-count new) none) q)) c.read_tables.ensures.stays
 
 pub returns-in-Ok-Some-clause-hit : goal.returns-in-Ok-Some-clause-hit
 returns-in-Ok-Some-clause-hit g c = λ whole. subst (λ r. IfOk r (λ o. IfSome o (λ _. IsPartitionRecent c.args.key.now c.args.self.now c.look_up.new.self))) (c.in-Ok-Some.is ∙ ap Ok c.in-Ok-Some.field-0-is) c.look_up.ensures.hit
