@@ -8,7 +8,7 @@ use Rattle.rc_position.specs.declared.positions.Pos.{Pos}
 use Rattle.rc_mutation.specs.declared.fragments.HeadAt.{HeadAt}
 use Rattle.rc_mutation.specs.declared.mutations.Mutation.{Mutation}
 use Rattle.rc_mutation.specs.Source.{source_at_head, source_at_static}
-use Rattle.rc_core.specs.Chain.{content, flagged}
+use Rattle.rc_core.specs.Chain.{content, has_flag}
 use Rattle.rc_core.specs.Continuity.{static_states, version_tombs}
 use Rattle.rc_memory.specs.Memory.{HasPin, Memory}
 use Rattle.rc_chain.specs.declared.chains.Snap.{Snap}
@@ -38,7 +38,7 @@ pub record KnownLaws (S : ℕ) : Type 0 where
 
 -- the head that a snapshot sees
 abbrev pub head_seen : Memory → Snap → HeadAt
-head_seen m s = record { head = record { pt = greatest tomb_cmp (version_tombs (versions_seen m s)); statics = (content (static_states (versions_seen m s))).0 }; known = flagged (kind_seen m s) (static_states (versions_seen m s)) }
+head_seen m s = record { head = record { pt = greatest tomb_cmp (version_tombs (versions_seen m s)); statics = (content (static_states (versions_seen m s))).0 }; known = has_flag (kind_seen m s) (static_states (versions_seen m s)) }
 
 pub is-head-seen : (m : Memory) (s : Snap) → IsHeadSeen m s (head_seen m s)
 is-head-seen m s = record { pt = refl; statics = refl; known = refl }

@@ -6,7 +6,7 @@ ghost use Rattle.rc_cell.specs.Orders.{tomb_cmp};
 ghost use Rattle.rc_cell.specs.Greatest.{greater};
 ghost use Rattle.rc_position.specs.Position.{row_pos};
 ghost use Rattle.rc_ranges.specs.Cover.{IsCanonical, IsRangeJoinOf};
-ghost use Rattle.rc_ranges.specs.calls.Sweep.{sweep_tomb, next_bound, rest_from, earlier, goes_on, extended, extended_by};
+ghost use Rattle.rc_ranges.specs.calls.Sweep.{sweep_tomb, next_bound, rest_from, earlier, goes_on, extended_pieces, extended_by};
 
 use crate::pieces::Piece;
 use rc_cell::Tomb;
@@ -113,7 +113,7 @@ fn continues(last: &Piece, next: &Piece) -> bool
 
 // Puts two pieces behind the others, as one if the second continues the first.
 fn push_both(made: &mut Vec<Piece>, last: Piece, next: Piece) -> Result<(), AllocError>
-    ensures { OnOk result (made.new.items ≡ made.old.items ++ extended (last ∷ []) next) }
+    ensures { OnOk result (made.new.items ≡ made.old.items ++ extended_pieces (last ∷ []) next) }
 {
     if continues(&last, &next) {
         made.push(Piece {
@@ -130,7 +130,7 @@ fn push_both(made: &mut Vec<Piece>, last: Piece, next: Piece) -> Result<(), Allo
 
 // Puts a piece behind the others, or makes the last one longer if the new one continues it.
 fn extend(made: &mut Vec<Piece>, next: Piece) -> Result<(), AllocError>
-    ensures { OnOk result (made.new.items ≡ extended made.old.items next) }
+    ensures { OnOk result (made.new.items ≡ extended_pieces made.old.items next) }
 {
     match made.pop() {
         None => Ok(made.push(next)?),

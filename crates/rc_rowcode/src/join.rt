@@ -9,7 +9,7 @@ ghost use Rattle.rc_cell.specs.Winner.{winner, joined_row};
 ghost use Rattle.rc_cell.specs.Greatest.{greater};
 ghost use Rattle.rc_rowcode.specs.Spelling.{entry_code, row_code, CellFits, IsCodedRow, IsCode};
 ghost use Rattle.rc_rowcode.specs.calls.Views.{seen_cell};
-ghost use Rattle.rc_rowcode.specs.calls.Joining.{listed, seen_entries, seen_row, merged_cells, AreSorted};
+ghost use Rattle.rc_rowcode.specs.calls.Joining.{listed_cells, seen_entries, seen_row, merged_cells, AreSorted};
 ghost use Rattle.rc_rowcode.specs.Space.{Space, HasRoom};
 
 use crate::cells::{CellView, append_entry, entry_at};

@@ -40,9 +40,9 @@ ghost use Rattle.rc_shard.specs.Losing.{IsLostInCrowd, LosesForWrite, LosesInCro
 ghost use Rattle.rc_shard.specs.Knowing.{AsksNothingWhereKnown, IsCachedWhole, IsKnownOnceOpened, IsKnownStill, IsPartitionRecent, IsRecentOnceHit, IsTouchedAsGiven, StaysKnown};
 ghost use Rattle.rc_shard.specs.Opening.{IsOnePinned, IsOpenedAsTold, PinsPartition};
 ghost use Rattle.rc_shard.specs.Stands.{AreOfTwo, AreTwo, IsFullAsTold, holding};
-ghost use Rattle.rc_shard.specs.calls.Keeping.{CountsStay, Keeps, TellsOf};
+ghost use Rattle.rc_shard.specs.calls.Keeping.{CountsStay, StandsForTheSame, TellsOf};
 ghost use Rattle.rc_shard.specs.calls.Looking.{AreKnownStill, IsCacheLeft, IsCacheUsed, IsTabled, KeepsOver, UnlessMemory};
-ghost use Rattle.rc_shard.specs.calls.Storing.{IsFlushAnswered, IsKept};
+ghost use Rattle.rc_shard.specs.calls.Storing.{IsFlushAnswered, KeepsUnstored};
 
 use crate::compacting::compact;
 use crate::evicting::evict;
@@ -297,7 +297,7 @@ impl Shard {
         ensures skips { OnOk result (self.new.unstored.chains.counts.skipped ≡ self.old.unstored.chains.counts.skipped) }
         ensures crowds { OnOk result (LosesForWrite self.old.unstored.chains self.new.unstored.chains) }
         ensures left { IsCacheLeft self.old self.new }
-        ensures err { OnErr result (Keeps ⟦<Shard as Machine>⟧.stands self.old self.new) }
+        ensures err { OnErr result (StandsForTheSame ⟦<Shard as Machine>⟧.stands self.old self.new) }
         ensures counts { CountsStay self.old self.new }
     {
         what_is_left_stays_where_the_snapshots_see_the_same::<131_072>();
@@ -383,7 +383,7 @@ impl Shard {
         ensures whole { IfOk result (λ o. IfSome o (λ _. IsCachedWhole self.new key.now)) }
         ensures stays { (q : List ℕ) → IsKnownStill q self.old self.new }
         ensures hit { IfOk result (λ o. IfSome o (λ _. IsPartitionRecent key.now self.old self.new)) }
-        ensures keeps { Keeps ⟦<Shard as Machine>⟧.stands self.old self.new }
+        ensures keeps { StandsForTheSame ⟦<Shard as Machine>⟧.stands self.old self.new }
         ensures loses { LosesWhereCrowded 131072 0 self.old.unstored.chains self.new.unstored.chains }
         ensures beside { IsCacheUsed self.old self.new }
     {
@@ -473,7 +473,7 @@ impl Shard {
         ensures stays { IfOk result (λ _. (q : List ℕ) → IsKnownStill q self.old self.new) }
         ensures recency { IfOk result (λ _. (self.new.cache.entries ≡ self.old.cache.entries) × (self.new.unstored.chains.recency ≡ self.old.unstored.chains.recency)) }
         ensures loses { OnOk result (LosesWhereCrowded 131072 0 self.old.unstored.chains self.new.unstored.chains) }
-        ensures err { OnErr result (Keeps ⟦<Shard as Machine>⟧.stands self.old self.new) }
+        ensures err { OnErr result (StandsForTheSame ⟦<Shard as Machine>⟧.stands self.old self.new) }
         ensures counts { CountsStay self.old self.new }
     {
         what_is_left_stays_where_the_snapshots_see_the_same::<131_072>();
@@ -494,7 +494,7 @@ impl Shard {
         ensures left { IsCacheLeft self.old self.new }
         ensures touches { IfOk result (λ reply. IsTouchedAsGiven (Command.Read id count) reply self.old self.new) }
         ensures faultless { (n : ℕ) → IfOk result (λ reply. OnFaulty reply (Rose n n)) }
-        ensures err { OnErr result (Keeps ⟦<Shard as Machine>⟧.stands self.old self.new) }
+        ensures err { OnErr result (StandsForTheSame ⟦<Shard as Machine>⟧.stands self.old self.new) }
         ensures counts { CountsStay self.old self.new }
     {
         what_is_left_stays_where_the_snapshots_see_the_same::<131_072>();
@@ -568,7 +568,7 @@ impl Shard {
         requires stands { (m : State) × ⟦<Shard as Machine>⟧.stands (W.files store.old) self.old m }
         requires number { IsNextNumber self.old.folder.infos (Some number) }
         ensures written { IfOk result (IsFlushAnswered (W.files store.old) self.old number (W.files store.new) self.new) }
-        ensures err { OnErr result ((self.new.folder ≡ self.old.folder) × (self.new.cache ≡ self.old.cache) × IsKept self.old.folder.schema self.old.unstored self.new.unstored × (W.files store.new ≡ W.files store.old)) }
+        ensures err { OnErr result ((self.new.folder ≡ self.old.folder) × (self.new.cache ≡ self.old.cache) × KeepsUnstored self.old.folder.schema self.old.unstored self.new.unstored × (W.files store.new ≡ W.files store.old)) }
         ensures faults { FaultsAreCounted result (W.faults store.old) (W.faults store.new) }
         ensures asks { W.asks store.new ≡ W.asks store.old }
         ensures readers { self.new.readers ≡ self.old.readers }
@@ -610,7 +610,7 @@ fn open_in(
     ensures pins { IfOk result (PinsPartition key.now unstored.old unstored.new) }
     ensures key { IfOk result (λ o. o.key ≡ key.now) }
     ensures fresh { IfOk result (λ o. (s : Snapshot) → HasPin unstored.old.chains s.chain s.pin → IsNoneOf (snaps_of o) s) }
-    ensures kept { (schema : SchemaValue) → IsKept schema unstored.old unstored.new }
+    ensures kept { (schema : SchemaValue) → KeepsUnstored schema unstored.old unstored.new }
 {
     what_a_call_leaves_of_the_room();
     what_calls_leave_of_the_cache();

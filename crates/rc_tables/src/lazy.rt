@@ -4,9 +4,9 @@ ghost use Rattle.std.specs.Prelude.{◌≡◌, ◌≤◌, ◌+◌, ◌*◌, IfEr
 ghost use Rattle.rc_outside.specs.Files.{HoldsSameFiles};
 ghost use Rattle.rc_stream.specs.Leaving.{left_by, sought_by};
 ghost use Rattle.rc_stream.specs.Causes.{Caused};
-ghost use Rattle.rc_stream.specs.Stream.{Stream, first_upto, is_upto, sought, took};
+ghost use Rattle.rc_stream.specs.Stream.{Stream, first_upto, is_upto, sought_stream, took};
 ghost use Rattle.rc_tables.specs.Located.{WhereTold};
-ghost use Rattle.rc_stream.specs.Did.{answered};
+ghost use Rattle.rc_stream.specs.Did.{has_answer};
 ghost use Rattle.rc_tables.specs.Tables.{AreHeld, IsDamageOf, IsStreamAt, listing};
 ghost use Rattle.rc_tables.specs.Streams.{DidAsk, IsReady, IsSomeStream, MayBe, SameTables, Settled, IsLazyOf, asks_left};
 
@@ -70,7 +70,7 @@ impl TableFrags {
         ensures damaged { IfErr result (IsDamageOf self.old.schema self.old.key self.old.infos) }
         ensures cause { Caused result (W.files store.old) (W.faults store.old) (W.faults store.new) }
         ensures store { HoldsSameFiles W.files W.building store.old store.new }
-        ensures asks { DidAsk (answered result) self.old (W.asks store.old) self.new (W.asks store.new) }
+        ensures asks { DidAsk (has_answer result) self.old (W.asks store.old) self.new (W.asks store.new) }
     {
         match self.take_read(alloc, store) {
             Ok(read) => {
@@ -93,13 +93,13 @@ impl TableFrags {
     ) -> Result<(), StreamErr>
         requires { IsReady (W.files store.old) self.old }
         ensures ready { IsReady (W.files store.new) self.new }
-        ensures some { OnOk result ((s : Stream) × Settled self.old self.new s (sought to.now s)) }
+        ensures some { OnOk result ((s : Stream) × Settled self.old self.new s (sought_stream to.now s)) }
         ensures stands { (s : Stream) → IsLazyOf (W.files store.old) self.old s → IsLazyOf (W.files store.new) self.new (sought_by result to.now s) }
         ensures tables { SameTables self.old self.new }
         ensures damaged { IfErr result (IsDamageOf self.old.schema self.old.key self.old.infos) }
         ensures cause { Caused result (W.files store.old) (W.faults store.old) (W.faults store.new) }
         ensures store { HoldsSameFiles W.files W.building store.old store.new }
-        ensures asks { DidAsk (answered result) self.old (W.asks store.old) self.new (W.asks store.new) }
+        ensures asks { DidAsk (has_answer result) self.old (W.asks store.old) self.new (W.asks store.new) }
     {
         match self.take_read(alloc, store) {
             Ok(mut list) => {
@@ -131,7 +131,7 @@ impl TableFrags {
         ensures damaged { IfErr result (IsDamageOf self.old.schema self.old.key self.old.infos) }
         ensures cause { Caused result (W.files store.old) (W.faults store.old) (W.faults store.new) }
         ensures store { HoldsSameFiles W.files W.building store.old store.new }
-        ensures asks { DidAsk (answered result) self.old (W.asks store.old) self.new (W.asks store.new) }
+        ensures asks { DidAsk (has_answer result) self.old (W.asks store.old) self.new (W.asks store.new) }
     {
         match self.take_read(alloc, store) {
             Ok(mut list) => {
