@@ -4,7 +4,7 @@ use Rattle.rc_shell.specs.calls.Feed.{Answered, PushedText, PushedEnding, Pushed
 use Rattle.rc_shell.specs.Status.{status_at}
 use Rattle.rc_shell.specs.calls.Status.{stop_by}
 use Rattle.rc_lines.specs.laws.{long_lines_are_cut}
-use Rattle.rc_machine.specs.Built.{served as meaning_served}
+use Rattle.rc_machine.specs.Built.{served_meaning}
 use Rattle.rc_shell.specs.Step.{Moment, Stage, Waiting, Serving, StoreView, LineStep, StageStep, MayAsk, EndsRun, EndsRunAt, LeavesStore, meaning_at, told_after}
 use Rattle.rc_shell.specs.declared.status.Status.{Status}
 use Rattle.rc_shell.specs.declared.status.Ending.{Ending}
@@ -15,8 +15,8 @@ use Rattle.rc_shell.proofs.Serving.{served, ended, unserved}
 -- the front of a line that is kept means what the line means
 front_means : (stage : Stage) (line : List ℕ) → meaning_at stage (kept_front line) ≡ meaning_at stage line
 unfolding kept_front
-front_means (Waiting files) line = ap meaning_served (long_lines_are_cut None line)
-front_means (Serving m) line = ap meaning_served (long_lines_are_cut (Some m.schema) line)
+front_means (Waiting files) line = ap served_meaning (long_lines_are_cut None line)
+front_means (Serving m) line = ap served_meaning (long_lines_are_cut (Some m.schema) line)
 
 -- it decides what the line is answered
 front_decides : (old new : Moment) (line text : List ℕ) → LineStep old (kept_front line) text new → LineStep old line text new
