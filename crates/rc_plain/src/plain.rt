@@ -26,6 +26,7 @@ use crate::memtable::Memtable;
 use crate::readers::{Rest, place_of};
 use rc_folder::{Answered, Folder, Machine, OpenErr};
 use rc_lines::{Command, Figures, Refusal, Reply};
+use rc_machine::MOST_READERS;
 use rc_mutation::{Mutation, Write};
 use rc_outside::Store;
 use rc_position::{PartKey, Slice};
@@ -36,9 +37,6 @@ use rc_tfile::WriteErr;
 use std::alloc::{AllocError, Global};
 use std::marker::Model;
 use std::mem;
-
-/// The most readers that may be open at once.
-const MOST_READERS: usize = 64;
 
 /// A plain, slow program that takes one step of the machine after another. It knows of each table of the folder where the directory
 /// lists its partitions, keeps the writes that stand in no table, and makes the whole answer of a reader when it is opened. A contract

@@ -60,6 +60,7 @@ use rc_lookup::unstored_laws::{
     what_leaves_the_chains_of_both_leaves_their_writes,
 };
 use rc_lookup::{Chains, RowCache, Unstored, keep_recent, lookup, populate};
+use rc_machine::MOST_READERS;
 use rc_mutation::laws::a_join_says_what_the_writes_say;
 use rc_mutation::{Mutation, Write};
 use rc_opened::{Leaves, Opened, what_is_left_stays_where_the_snapshots_see_the_same};
@@ -70,9 +71,6 @@ use rc_stream::{ListFrags, StreamErr};
 use rc_tfile::WriteErr;
 use rc_writes::laws::what_says_the_same_fits;
 use std::alloc::{AllocError, Global};
-
-/// The most readers that may be open at once.
-const MOST_READERS: usize = 64;
 
 /// One shard: it takes one step of the machine after another. What is written and stands in no table lies in version chains, in a region
 /// of segments of 131,072 bytes, and so does what the row cache knows of the tables. An open reader pins the versions that it sees; what the
