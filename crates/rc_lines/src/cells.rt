@@ -11,10 +11,10 @@ ghost use Rattle.rc_spelling.specs.Words.{is_word};
 ghost use Rattle.rc_lines.specs.calls.ShapeParts.{are_distinct, live_of, set_of, split_set, cell_said, each_cell_of, named_cells, some_cells_of};
 ghost use Rattle.rc_lines.specs.Parts.{named_cell};
 
-use crate::parts::is_name;
 use crate::shapes::{Named, Stamp};
 use rc_cell::{Cell, Value};
 use rc_position::Text;
+use rc_schema::is_name;
 use rc_spelling::read_bytes;
 use std::alloc::{AllocError, Global};
 use std::collections::BTreeSet;
