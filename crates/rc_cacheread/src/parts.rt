@@ -10,7 +10,7 @@ ghost use Rattle.rc_stream.specs.Places.{Reaches};
 ghost use Rattle.rc_stream.specs.Showing.{Blames};
 ghost use Rattle.rc_stream.specs.Snapshot.{IsPartFrom, SameKnown, There, place_behind};
 ghost use Rattle.rc_stream.specs.Stream.{Stream};
-ghost use Rattle.rc_cacheread.specs.Did.{IsQuiet, KnownStep, ReaderCall, ReaderFilled, reader_state};
+ghost use Rattle.rc_cacheread.specs.Did.{CallsSnapshotAlone, KnownStep, ReaderCall, ReaderFilled, reader_state};
 ghost use Rattle.rc_cacheread.specs.calls.Did.{IsReaderStepUpto, ReaderStepSays};
 ghost use Rattle.rc_cacheread.specs.Passing.{IsKnownOver};
 ghost use Rattle.rc_cacheread.specs.calls.Passing.{PassesWhole};
@@ -95,7 +95,7 @@ pub(crate) fn read_part<H, W: Store, K: Known<H>, F: Frags<H, W>, P: Filler<H>>(
     ensures says { (s : Stream) → Sees (of_known K.ready K.place K.knows K.heads K.did) (of_below F.ready F.seen F.ahead F.moves F.did) (of_filler P.ready P.fits P.may P.lost P.stands P.knows P.knows_statics P.fills) reader.old home.old store.old s → ReaderStepSays result upto.now s (Sees (of_known K.ready K.place K.knows K.heads K.did) (of_below F.ready F.seen F.ahead F.moves F.did) (of_filler P.ready P.fits P.may P.lost P.stands P.knows P.knows_statics P.fills) reader.new home.new store.new) }
     ensures upto { IfOk result (IsReaderStepUpto upto.now) }
     ensures did { (y : Pos) → ReachesEnd (Sees (of_known K.ready K.place K.knows K.heads K.did) (of_below F.ready F.seen F.ahead F.moves F.did) (of_filler P.ready P.fits P.may P.lost P.stands P.knows P.knows_statics P.fills) reader.old home.old store.old) upto.now y → InTurn (ReaderCall (of_known K.ready K.place K.knows K.heads K.did) (of_below F.ready F.seen F.ahead F.moves F.did) (of_filler P.ready P.fits P.may P.lost P.stands P.knows P.knows_statics P.fills) (OfNext y)) (has_answer result) (reader_state reader.old home.old store.old) (reader_state reader.new home.new store.new) }
-    ensures quiet { (v : There) → K.knows reader.old.known home.old reader.old.spot.place v → IsQuiet (of_known K.ready K.place K.knows K.heads K.did) (has_answer result) (reader_state reader.old home.old store.old) (reader_state reader.new home.new store.new) }
+    ensures quiet { (v : There) → K.knows reader.old.known home.old reader.old.spot.place v → CallsSnapshotAlone (of_known K.ready K.place K.knows K.heads K.did) (has_answer result) (reader_state reader.old home.old store.old) (reader_state reader.new home.new store.new) }
     ensures keeps { (v : There) → K.knows reader.old.known home.old reader.old.spot.place v → SameKnown (K.knows reader.old.known home.old) (K.knows reader.new.known home.new) }
     ensures whole { (v : There) → K.knows reader.old.known home.old reader.old.spot.place v → PassesWhole (K.knows reader.old.known home.old) (stand reader.old.spot) (stand reader.new.spot) }
     ensures on { Reaches (stand reader.old.spot) (stand reader.new.spot) }
