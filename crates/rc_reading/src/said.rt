@@ -119,7 +119,7 @@ pub(crate) fn row_of<const S: usize>(
     holder: Option<Ref>,
 ) -> Result<Option<Row>, AllocError>
     requires { (row : Maybe RowValue) × IsRowRead region.now holder row }
-    ensures { (row : Maybe RowValue) → IsRowRead region.now holder row → IfOk result (λ finding_of. finding_of ≡ row) }
+    ensures { (row : Maybe RowValue) → IsRowRead region.now holder row → IfOk result (λ found. found ≡ row) }
 {
     let Some(r) = holder else {
         return Ok(None);

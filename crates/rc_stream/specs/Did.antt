@@ -95,7 +95,7 @@ merge_did did did' m h w c ok n g v = MergeDid did did' m.due c ok (merge_state 
 
 -- what is left to be asked for is all that calls ask for: an answered one leaves that much less, and a refused one asks for no more
 pub record Spends {S H W : Type 0} (did : Deed S H W) (left : S → ℕ) (asks : W → ℕ) : Type 0 where
-  pub has_answer : (s : S) (h : H) (w : W) (c : Call) (t : S) (g : H) (v : W) → did s h w c true t g v → asks v + left t ≤ asks w + left s
+  pub answered : (s : S) (h : H) (w : W) (c : Call) (t : S) (g : H) (v : W) → did s h w c true t g v → asks v + left t ≤ asks w + left s
   pub refused : (s : S) (h : H) (w : W) (c : Call) (t : S) (g : H) (v : W) → did s h w c false t g v → asks v ≤ asks w + left s
 
 -- a stream that is settled asks for nothing, and stays settled; where its head was answered it is settled
