@@ -24,9 +24,8 @@ ghost use Rattle.rc_plain.specs.calls.Storing.{IsFlushKept, sealed_all};
 
 use crate::memtable::Memtable;
 use crate::readers::{Rest, place_of};
-use rc_folder::{Answered, Folder, Machine, OpenErr};
+use rc_folder::{Answered, Folder, MOST_READERS, Machine, OpenErr};
 use rc_lines::{Command, Figures, Refusal, Reply};
-use rc_machine::MOST_READERS;
 use rc_mutation::{Mutation, Write};
 use rc_outside::Store;
 use rc_position::{PartKey, Slice};

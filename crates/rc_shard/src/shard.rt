@@ -50,7 +50,7 @@ use crate::forgetting::forget_all;
 use crate::leaving::{what_calls_leave_of_the_cache, what_is_live_is_of_memtables};
 use crate::putting::put_in;
 use rc_census::census;
-use rc_folder::{Answered, Folder, Machine, OpenErr};
+use rc_folder::{Answered, Folder, MOST_READERS, Machine, OpenErr};
 use rc_lines::{Command, Figures, Refusal, Reply};
 use rc_lookup::footprint::what_is_let_go_counts_nothing;
 use rc_lookup::row_cache_laws::the_cache_says_what_lies_below;
@@ -60,7 +60,6 @@ use rc_lookup::unstored_laws::{
     what_leaves_the_chains_of_both_leaves_their_writes,
 };
 use rc_lookup::{Chains, RowCache, Unstored, keep_recent, lookup, populate};
-use rc_machine::MOST_READERS;
 use rc_mutation::laws::a_join_says_what_the_writes_say;
 use rc_mutation::{Mutation, Write};
 use rc_opened::{Leaves, Opened, what_is_left_stays_where_the_snapshots_see_the_same};
