@@ -14,27 +14,27 @@ use Rattle.rc_machine.specs.Built.{is_built}
 use Rattle.rc_machine.specs.Serving.{Takes, Stops}
 use Rattle.rc_machine.specs.State.{State}
 use Rattle.rc_machine.specs.Steps.{Steps, Refuses}
-use Rattle.rc_plain.specs.Stands.{Keeping, Stands}
+use Rattle.rc_plain.specs.Stands.{Keeping, PlainStands}
 use Rattle.direct.specs.calls.Answered.{IsAnswered}
 
 -- whatever state the program stood for, the line is answered by a reply, and it stands for the next one
 abbrev pub Answers : Option Files → Keeping → List ℕ → Option Files → Keeping → Reply → Type 0
-Answers files k line files' k' reply = (m : State) → Stands files k m → (next : State) × IsAnswered m (parse (Some m.schema) line) reply next × Stands files' k' next
+Answers files k line files' k' reply = (m : State) → PlainStands files k m → (next : State) × IsAnswered m (parse (Some m.schema) line) reply next × PlainStands files' k' next
 
 module _ (files files' : Option Files) (k k' : Keeping) (line : List ℕ) where
   -- what the line means under the state's schema, which is the program's
-  means : (meaning : Result Command Refusal) → parse (Some k.schema) line ≡ meaning → (m : State) → Stands files k m → (reply : Reply) (next : State) → IsAnswered m meaning reply next
+  means : (meaning : Result Command Refusal) → parse (Some k.schema) line ≡ meaning → (m : State) → PlainStands files k m → (reply : Reply) (next : State) → IsAnswered m meaning reply next
       → IsAnswered m (parse (Some m.schema) line) reply next
   means meaning p m s reply next a = subst (λ said. IsAnswered m said reply next) (sym (ap (λ z. parse (Some z) line) s.over.schema ∙ p)) a
 
   pub by_step : (command : Command) (r : Result Reply AllocError) → parse (Some k.schema) line ≡ Ok command → is_built command ≡ true
-      → IfOk r (λ reply. Takes Stands files k command reply files' k') → IfOk r (Answers files k line files' k')
+      → IfOk r (λ reply. Takes PlainStands files k command reply files' k') → IfOk r (Answers files k line files' k')
   by_step command r p built takes = IfOk-weaker r _ _ (λ reply t m s. let d = t m s in
       (d.0, means (Ok command) p m s reply d.0 (subst (λ b. MatchBool b (Steps m command reply d.0) (Refuses m BadLine reply d.0)) (sym built) d.1), d.2)) takes
 
   -- it stands for some state then, whatever was answered
-  pub stands_then : (command : Command) (r : Result Reply AllocError) → IfOk r (λ reply. Takes Stands files k command reply files' k') → OnErr r (Stops Stands files k command files' k')
-      → (m : State) × Stands files k m → (m : State) × Stands files' k' m
+  pub stands_then : (command : Command) (r : Result Reply AllocError) → IfOk r (λ reply. Takes PlainStands files k command reply files' k') → OnErr r (Stops PlainStands files k command files' k')
+      → (m : State) × PlainStands files k m → (m : State) × PlainStands files' k' m
   stands_then command (Ok reply) takes stops s = let d = takes s.0 s.1 in (d.0, d.2)
   stands_then command (Err e) takes stops s = let d = stops s.0 s.1 in (d.0, d.2)
 

@@ -3,7 +3,7 @@
 ghost use Rattle.std.specs.Prelude.{◌≡◌, Some, IfOk};
 ghost use Rattle.rc_lines.specs.Grammar.{parse};
 ghost use Rattle.rc_machine.specs.State.{State};
-ghost use Rattle.rc_plain.specs.Stands.{Stands};
+ghost use Rattle.rc_plain.specs.Stands.{PlainStands};
 ghost use Rattle.direct.specs.calls.Answered.{IsAnswered};
 
 use rc_lines::{LineErr, Refusal, Reply, read_line};
@@ -19,10 +19,10 @@ pub fn answer<W: Store>(
     store: &mut W,
     line: &[u8],
 ) -> Result<Reply, AllocError>
-    requires { (m : State) × Stands (W.files store.old) machine.old m }
-    ensures answered { IfOk result (λ reply. (m : State) → Stands (W.files store.old) machine.old m →
-        (next : State) × IsAnswered m (parse (Some m.schema) line.now) reply next × Stands (W.files store.new) machine.new next) }
-    ensures stands { (m : State) × Stands (W.files store.new) machine.new m }
+    requires { (m : State) × PlainStands (W.files store.old) machine.old m }
+    ensures answered { IfOk result (λ reply. (m : State) → PlainStands (W.files store.old) machine.old m →
+        (next : State) × IsAnswered m (parse (Some m.schema) line.now) reply next × PlainStands (W.files store.new) machine.new next) }
+    ensures stands { (m : State) × PlainStands (W.files store.new) machine.new m }
 {
     match read_line(alloc, Some(machine.schema()), line) {
         Ok(command) => {

@@ -11,7 +11,7 @@ mod early;
 mod stores;
 
 ghost use Rattle.rc_machine.specs.State.{State};
-ghost use Rattle.rc_plain.specs.Stands.{Stands};
+ghost use Rattle.rc_plain.specs.Stands.{PlainStands};
 
 use anyhow::Result;
 use calls::answer;
@@ -76,7 +76,7 @@ fn serve<W: Store, K: Sink>(
     lines: &[Vec<u8>],
     out: &mut K,
 ) -> Result<u64>
-    requires { (m : State) × Stands (W.files store.old) machine.old m }
+    requires { (m : State) × PlainStands (W.files store.old) machine.old m }
 {
     let mut rows = 0u64;
     for line in lines {

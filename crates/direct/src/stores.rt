@@ -2,7 +2,7 @@
 
 ghost use Rattle.std.specs.Prelude.{◌≡◌, ℕ, None, IsSome, OnOk, MatchResult};
 ghost use Rattle.rc_outside.specs.Files.{with_draft};
-ghost use Rattle.rc_outside.specs.Faults.{raised};
+ghost use Rattle.rc_outside.specs.Faults.{raised_count};
 
 use rc_outside::{Failed, Store, StoreErr};
 use std::alloc::Global;
@@ -71,7 +71,7 @@ impl<W: Store> Store for Written<W> {
         ensures building { W.building self.new.inner ≡ None }
         ensures faults { RisesIfFault OnFault result (W.faults self.old.inner) (W.faults self.new.inner) }
         ensures asks { W.asks self.new.inner ≡ W.asks self.old.inner }
-        ensures counted { OnOk result (self.new.written ≡ raised self.old.written) }
+        ensures counted { OnOk result (self.new.written ≡ raised_count self.old.written) }
     {
         self.inner.finish(alloc)?;
         if self.written < u64::MAX {

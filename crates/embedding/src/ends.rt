@@ -2,7 +2,7 @@
 
 ghost use Rattle.std.specs.Prelude.{◌≡◌, ◌≤◌, ℕ, ◌<◌, length, drop, IfOk, OnOk, MatchResult};
 ghost use Rattle.std.specs.Io.KnownBytes.{ReadConsumes};
-ghost use Rattle.rc_outside.specs.Faults.{raised, Rose};
+ghost use Rattle.rc_outside.specs.Faults.{raised_count, Rose};
 
 use rc_outside::{Failed, Sink, SinkErr, Source};
 
@@ -32,7 +32,7 @@ impl<T> Counted<T> {
     /// Counts one more call.
     fn count(&mut self)
         ensures inner { self.new.inner ≡ self.old.inner }
-        ensures answered { self.new.answered ≡ raised self.old.answered }
+        ensures answered { self.new.answered ≡ raised_count self.old.answered }
     {
         if self.answered < u64::MAX {
             self.answered += 1;
@@ -56,7 +56,7 @@ impl<I: Source> Source for Counted<I> {
         ensures cause { MatchResult result
             (λ _. I.faults self.new.inner ≡ I.faults self.old.inner)
             (λ _. Rose (I.faults self.old.inner) (I.faults self.new.inner)) }
-        ensures counted { OnOk result (self.new.answered ≡ raised self.old.answered) }
+        ensures counted { OnOk result (self.new.answered ≡ raised_count self.old.answered) }
     {
         let count = self.inner.pull(into)?;
         self.count();
@@ -74,7 +74,7 @@ impl<K: Sink> Sink for Counted<K> {
     /// Writes the piece to the other sink.
     fn push(&mut self, piece: &[u8]) -> Result<(), SinkErr>
         ensures pushed { Pushed (K.written self.old.inner) (K.written self.new.inner) (K.faults self.old.inner) (K.faults self.new.inner) piece.now result }
-        ensures counted { OnOk result (self.new.answered ≡ raised self.old.answered) }
+        ensures counted { OnOk result (self.new.answered ≡ raised_count self.old.answered) }
     {
         self.inner.push(piece)?;
         self.count();

@@ -3,7 +3,7 @@ use Rattle.std.proofs.Common.{◌≡◌, ℕ, zero, suc, ◌+◌, ◌*◌, ◌-�
 use Rattle.std.proofs.Math.ListN.{set}
 use Rattle.std.proofs.Math.Nat.{one-le-pow, pow-suc}
 use Rattle.std.proofs.lemmas.List.{get_or-drop, get_or-take, drop_more, length-take-le, drop-set-add, take_more_set}
-use Rattle.lsa_kinds.specs.Fields.{number, spelled}
+use Rattle.lsa_kinds.specs.Fields.{number, spelled_number}
 
 pub number-bound : (bytes : List ℕ) (width : ℕ) → ((k : ℕ) → get_or bytes k 0 < 256) → length bytes ≤ width → number bytes < 256 ^ width
 number-bound [] width small short = omega (arith, one-le-pow width 256 (omega arith))
@@ -39,9 +39,9 @@ pub field_number : (offset width index : ℕ) (bytes : List ℕ) → index < wid
     → number (drop index (take width (drop offset bytes))) ≡ get_or bytes (offset + index) 0 + 256 * number (drop (index + 1) (take width (drop offset bytes)))
 field_number offset width index bytes below inside = ap number (field_from offset width index bytes below inside)
 
-pub spelled-next : (width index value : ℕ) → index < width → spelled (width - index) value ≡ value % 256 ∷ spelled (width - (index + 1)) (value / 256)
+pub spelled-next : (width index value : ℕ) → index < width → spelled_number (width - index) value ≡ value % 256 ∷ spelled_number (width - (index + 1)) (value / 256)
 spelled-next width index value below =
-    let next : width - index ≡ suc (width - (index + 1)) = omega arith in ap (λ k. spelled k value) next
+    let next : width - index ≡ suc (width - (index + 1)) = omega arith in ap (λ k. spelled_number k value) next
 
 -- one more byte of the field is written
 pub write_more : (offset index byte : ℕ) (bytes : List ℕ) → offset + index < length bytes

@@ -7,9 +7,9 @@ number [] = 0
 number (byte ∷ bytes) = byte + 256 * number bytes
 
 -- the bytes that spell a number in so many bytes, the least significant one first
-abbrev pub spelled : ℕ → ℕ → List ℕ
-spelled zero value = []
-spelled (suc width) value = value % 256 ∷ spelled width (value / 256)
+abbrev pub spelled_number : ℕ → ℕ → List ℕ
+spelled_number zero value = []
+spelled_number (suc width) value = value % 256 ∷ spelled_number width (value / 256)
 
 -- the number in the field of this width at this offset
 abbrev pub number_at : ℕ → ℕ → List ℕ → ℕ

@@ -1,6 +1,6 @@
 //! A field: a number in some of the bytes of an object.
 ghost use Rattle.std.specs.Prelude.{◌≡◌, ◌+◌, ◌^◌, ◌<◌, ◌≤◌, length, take, drop};
-ghost use Rattle.lsa_kinds.specs.Fields.{number_at, spelled, IsPut};
+ghost use Rattle.lsa_kinds.specs.Fields.{number_at, spelled_number, IsPut};
 
 /// The field of `WIDTH` bytes, 1 to 8, at `OFFSET` in some bytes. It holds a number below 256 ^ `WIDTH`, the least
 /// significant byte first.
@@ -32,7 +32,7 @@ impl<const OFFSET: usize, const WIDTH: usize> Field<OFFSET, WIDTH> {
         requires inside { OFFSET + WIDTH ≤ length bytes.old }
         requires width { WIDTH ≤ 8 }
         requires fits { value < 256 ^ WIDTH }
-        ensures bytes { take WIDTH (drop OFFSET bytes.new) ≡ spelled WIDTH value }
+        ensures bytes { take WIDTH (drop OFFSET bytes.new) ≡ spelled_number WIDTH value }
         ensures put { IsPut bytes.old bytes.new OFFSET WIDTH value }
     {
         let mut rest = value;
@@ -45,7 +45,7 @@ impl<const OFFSET: usize, const WIDTH: usize> Field<OFFSET, WIDTH> {
 
 /// The bytes of a number, the least significant one first.
 pub fn spell(value: u64) -> [u8; 8]
-    ensures { result ≡ spelled 8 value }
+    ensures { result ≡ spelled_number 8 value }
 {
     let mut bytes = [0; 8];
     Field::<0, 8>::put(&mut bytes, value);

@@ -1,7 +1,7 @@
 //! The laws of kinds and fields, each the contract of a function that does nothing.
 ghost use Rattle.std.specs.Prelude.{◌≡◌, ℕ, ◌^◌, ◌<◌};
 ghost use Rattle.lsa_kinds.specs.declared.kind.Kind.{Kind};
-ghost use Rattle.lsa_kinds.specs.Fields.{number, spelled};
+ghost use Rattle.lsa_kinds.specs.Fields.{number, spelled_number};
 ghost use Rattle.lsa_kinds.specs.Kinds.{fields_of, AreApart, AreInside};
 
 /// No two fields of a kind have a byte in common.
@@ -16,5 +16,5 @@ pub fn fields_of_a_kind_are_inside()
 
 /// The bytes that spell a number are the number's.
 pub fn a_spelled_number_reads_back()
-    ensures { (width value : ℕ) → value < 256 ^ width → number (spelled width value) ≡ value }
+    ensures { (width value : ℕ) → value < 256 ^ width → number (spelled_number width value) ≡ value }
 {}

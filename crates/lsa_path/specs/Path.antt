@@ -3,7 +3,7 @@ use Rattle.std.specs.Prelude.{◌≡◌, ◌≢◌, ℕ, zero, suc, nat_eq, cond
 use Rattle.lsa_region.specs.Ref.{Ref}
 use Rattle.lsa_region.specs.declared.end.End.{End}
 use Rattle.lsa_region.specs.declared.end.End.TheVariants.{Obj, Slot}
-use Rattle.lsa_region.specs.Ends.{swapped}
+use Rattle.lsa_region.specs.Ends.{swapped_end}
 use Rattle.lsa_region.specs.Region.{View, body}
 
 -- from this end the links lead through these objects to the finish: an end, or nothing
@@ -48,20 +48,20 @@ AllOnward onward P [] = ⊤
 AllOnward onward P (r ∷ refs) = P (Obj r onward) × AllOnward onward P refs
 
 -- the object that a path enters where an end names this; None where it enters none
-abbrev pub entered : ℕ → Option End → Option Ref
-entered toward None = None
-entered toward (Some (Obj r field)) = cond (nat_eq field toward) (Some r) None
-entered toward (Some (Slot root)) = None
+abbrev pub entered_object : ℕ → Option End → Option Ref
+entered_object toward None = None
+entered_object toward (Some (Obj r field)) = cond (nat_eq field toward) (Some r) None
+entered_object toward (Some (Slot root)) = None
 
 -- an object and those behind it, if there is one
-abbrev pub followed : (Ref → List Ref) → Option Ref → List Ref
-followed rest None = []
-followed rest (Some r) = r ∷ rest r
+abbrev pub objects_from : (Ref → List Ref) → Option Ref → List Ref
+objects_from rest None = []
+objects_from rest (Some r) = r ∷ rest r
 
 -- the objects that the links lead through from this end, so many at most
 abbrev pub walk : ℕ → ℕ → ℕ → (End → Option End) → End → List Ref
 walk zero toward onward named a = []
-walk (suc most) toward onward named a = followed (λ r. walk most toward onward named (Obj r onward)) (entered toward (named a))
+walk (suc most) toward onward named a = objects_from (λ r. walk most toward onward named (Obj r onward)) (entered_object toward (named a))
 
 -- the end is a root slot, or a link of a live object
 abbrev pub IsOfLive : View → End → Type 0
@@ -70,7 +70,7 @@ IsOfLive v (Slot root) = ⊤
 
 -- the other object's link, where the end is the link toward or onward of one of two objects; else the same end
 abbrev pub exchanged_end : ℕ → ℕ → Ref → Ref → End → End
-exchanged_end toward onward r q e = swapped (Obj r onward) (Obj q onward) (swapped (Obj r toward) (Obj q toward) e)
+exchanged_end toward onward r q e = swapped_end (Obj r onward) (Obj q onward) (swapped_end (Obj r toward) (Obj q toward) e)
 
 -- two objects have each other's name
 abbrev pub each_other : Ref → Ref → List (Ref × Ref)

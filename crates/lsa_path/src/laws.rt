@@ -8,7 +8,7 @@ ghost use Rattle.lsa_region.specs.Ends.{named_as, end_as};
 ghost use Rattle.lsa_region.specs.Paired.{WellPaired, IsExchanged};
 ghost use Rattle.lsa_region.specs.Layout.{object_extent};
 ghost use Rattle.lsa_region.specs.Region.{View, body, link_of, IsEnd, IsWell, IsSummed, Renamed, objects, live_bytes};
-ghost use Rattle.lsa_path.specs.Path.{IsPath, IsOutside, IsOutsideOrUnset, IsOfLive, IsInserted, IsTakenOut, AllOnward, behind, entered, walk};
+ghost use Rattle.lsa_path.specs.Path.{IsPath, IsOutside, IsOutsideOrUnset, IsOfLive, IsInserted, IsTakenOut, AllOnward, behind, entered_object, walk};
 ghost use Rattle.lsa_path.specs.Roles.{Role, role_at};
 
 /// A path stays where each end by which it leaves an object names what it did, and so does its start.
@@ -63,7 +63,7 @@ pub fn a_moved_path_is_the_renamed_one()
 
 /// The links determine the objects of a path and its finish, where it enters no object any more.
 pub fn a_path_is_determined_by_its_links()
-    ensures { (toward onward : ℕ) (named : End → Option End) (start : End) (xs ys : List Ref) (f g : Option End) → entered toward f ≡ None → entered toward g ≡ None →
+    ensures { (toward onward : ℕ) (named : End → Option End) (start : End) (xs ys : List Ref) (f g : Option End) → entered_object toward f ≡ None → entered_object toward g ≡ None →
         IsPath toward onward named start xs f → IsPath toward onward named start ys g → (xs ≡ ys) × (f ≡ g) }
 {}
 
@@ -100,7 +100,7 @@ pub fn a_path_leads_back()
 
 /// A walk of at least as many steps as a path has objects finds these.
 pub fn a_walk_finds_the_path()
-    ensures { (most toward onward : ℕ) (named : End → Option End) (start : End) (refs : List Ref) (finish : Option End) → length refs ≤ most → entered toward finish ≡ None →
+    ensures { (most toward onward : ℕ) (named : End → Option End) (start : End) (refs : List Ref) (finish : Option End) → length refs ≤ most → entered_object toward finish ≡ None →
         IsPath toward onward named start refs finish → walk most toward onward named start ≡ refs }
 {}
 
@@ -110,6 +110,6 @@ pub fn a_path_has_at_most_the_objects()
         IsPath toward onward (link_of v) start refs finish → length refs ≤ objects v }
     ensures bytes { (v : View) (toward onward : ℕ) (start : End) (refs : List Ref) (finish : Option End) → toward ≢ onward → IsWell v → IsSummed v → IsOutside toward onward start →
         IsPath toward onward (link_of v) start refs finish → sum_by (λ r. object_extent (body v r)) refs ≤ live_bytes v }
-    ensures walked { (v : View) (toward onward : ℕ) (start : End) (refs : List Ref) (finish : Option End) → toward ≢ onward → IsWell v → IsSummed v → IsOutside toward onward start → entered toward finish ≡ None →
+    ensures walked { (v : View) (toward onward : ℕ) (start : End) (refs : List Ref) (finish : Option End) → toward ≢ onward → IsWell v → IsSummed v → IsOutside toward onward start → entered_object toward finish ≡ None →
         IsPath toward onward (link_of v) start refs finish → walk (objects v) toward onward (link_of v) start ≡ refs }
 {}

@@ -23,7 +23,7 @@ use Rattle.lsa_region.specs.declared.end.Root.{Root}
 use Rattle.lsa_region.specs.declared.end.End.{End}
 use Rattle.lsa_region.specs.declared.end.End.TheVariants.{Obj, Slot}
 use Rattle.lsa_region.specs.Codes.{end_of}
-use Rattle.lsa_region.specs.Ends.{same_ref, swapped, swapped_ref}
+use Rattle.lsa_region.specs.Ends.{same_ref, swapped_end, swapped_ref}
 use Rattle.lsa_region.specs.calls.Ends.{end_by, IsSameShape}
 use Rattle.lsa_region.specs.Paired.{IsExchanged}
 use Rattle.lsa_region.specs.calls.Moves.{view_in, partly, IsCarrying, IsRenamedBy, IsRelieved, IsMovedTo}
@@ -52,7 +52,7 @@ module _ (r q : Ref) (apart : q ≢ r) where
   partly-high : (k : ℕ) (x : Ref) (f : ℕ) → k ≤ f → partly k r q (Obj x f) ≡ Obj x f
   partly-high k x f le = ap (λ b. Obj (cond b (swapped_ref r q x) x) f) (le-ltb f k le)
 
-  swapped-field : (x : Ref) (k : ℕ) → swapped (Obj r k) (Obj q k) (Obj x k) ≡ Obj (swapped_ref r q x) k
+  swapped-field : (x : Ref) (k : ℕ) → swapped_end (Obj r k) (Obj q k) (Obj x k) ≡ Obj (swapped_ref r q x) k
   swapped-field x k = ap (λ n. cond (same_ref x r && n) (Obj q k) (cond (same_ref x q && n) (Obj r k) (Obj x k))) (eq-eqb k k refl) ∙ go (same_ref x r) (same_ref x q)
     where
       go : (s t : Bool) → cond (s && true) (Obj q k) (cond (t && true) (Obj r k) (Obj x k)) ≡ Obj (cond s q (cond t r x)) k
@@ -60,29 +60,29 @@ module _ (r q : Ref) (apart : q ≢ r) where
       go false true = refl
       go false false = refl
 
-  swapped-else : (x : Ref) (f k : ℕ) → f ≢ k → swapped (Obj r k) (Obj q k) (Obj x f) ≡ Obj x f
+  swapped-else : (x : Ref) (f k : ℕ) → f ≢ k → swapped_end (Obj r k) (Obj q k) (Obj x f) ≡ Obj x f
   swapped-else x f k ne = swap-other (Obj r k) (Obj q k) (Obj x f) (λ e. let same : f ≡ k = cc in ne same) (λ e. let same : f ≡ k = cc in ne same)
 
-  swapped-slot : (s : Root) (k : ℕ) → swapped (Obj r k) (Obj q k) (Slot s) ≡ Slot s
+  swapped-slot : (s : Root) (k : ℕ) → swapped_end (Obj r k) (Obj q k) (Slot s) ≡ Slot s
   swapped-slot s k = swap-other (Obj r k) (Obj q k) (Slot s) (λ e. cc) (λ e. cc)
 
-  after-next : (k : ℕ) (e : End) → swapped (Obj r k) (Obj q k) (partly k r q e) ≡ partly (k + 1) r q e
+  after-next : (k : ℕ) (e : End) → swapped_end (Obj r k) (Obj q k) (partly k r q e) ≡ partly (k + 1) r q e
   after-next k (Slot s) = swapped-slot s k
   after-next k (Obj x f) = elim (decided f k) [
     | inl e ↦
-        ap (swapped (Obj r k) (Obj q k)) (partly-high k x f (omega (arith, e))) ∙ ap (λ n. swapped (Obj r k) (Obj q k) (Obj x n)) e ∙ swapped-field x k
+        ap (swapped_end (Obj r k) (Obj q k)) (partly-high k x f (omega (arith, e))) ∙ ap (λ n. swapped_end (Obj r k) (Obj q k) (Obj x n)) e ∙ swapped-field x k
         ∙ ap (λ n. Obj (swapped_ref r q x) n) (sym e) ∙ sym (partly-low (k + 1) x f (omega (arith, e)))
     | inr ne ↦ elim (cases_lt f k) [
-      | inl lt ↦ ap (swapped (Obj r k) (Obj q k)) (partly-low k x f lt) ∙ swapped-else (swapped_ref r q x) f k ne ∙ sym (partly-low (k + 1) x f (omega (arith, lt)))
-      | inr le ↦ ap (swapped (Obj r k) (Obj q k)) (partly-high k x f le) ∙ swapped-else x f k ne ∙ sym (partly-high (k + 1) x f (omega (arith, le, ne)))
+      | inl lt ↦ ap (swapped_end (Obj r k) (Obj q k)) (partly-low k x f lt) ∙ swapped-else (swapped_ref r q x) f k ne ∙ sym (partly-low (k + 1) x f (omega (arith, lt)))
+      | inr le ↦ ap (swapped_end (Obj r k) (Obj q k)) (partly-high k x f le) ∙ swapped-else x f k ne ∙ sym (partly-high (k + 1) x f (omega (arith, le, ne)))
     ]
   ]
 
-  before-next : (k : ℕ) (e : End) → partly k r q (swapped (Obj r k) (Obj q k) e) ≡ partly (k + 1) r q e
+  before-next : (k : ℕ) (e : End) → partly k r q (swapped_end (Obj r k) (Obj q k) e) ≡ partly (k + 1) r q e
   before-next k (Slot s) = ap (partly k r q) (swapped-slot s k)
   before-next k (Obj x f) = elim (decided f k) [
     | inl e ↦
-        ap (λ n. partly k r q (swapped (Obj r k) (Obj q k) (Obj x n))) e ∙ ap (partly k r q) (swapped-field x k) ∙ partly-high k (swapped_ref r q x) k (omega arith)
+        ap (λ n. partly k r q (swapped_end (Obj r k) (Obj q k) (Obj x n))) e ∙ ap (partly k r q) (swapped-field x k) ∙ partly-high k (swapped_ref r q x) k (omega arith)
         ∙ ap (λ n. Obj (swapped_ref r q x) n) (sym e) ∙ sym (partly-low (k + 1) x f (omega (arith, e)))
     | inr ne ↦ ap (partly k r q) (swapped-else x f k ne) ∙ elim (cases_lt f k) [
       | inl lt ↦ partly-low k x f lt ∙ sym (partly-low (k + 1) x f (omega (arith, lt)))
@@ -113,7 +113,7 @@ module _ (r q : Ref) (apart : q ≢ r) where
   carry-step old mid new k c ex shape usages ends back slots = record {
     links = λ e.
         at_end (link_of mid) (link_of new) (Obj r k) (Obj q k) ends_apart ex e
-        ∙ ap (option_map (swapped (Obj r k) (Obj q k))) (c.links (swapped (Obj r k) (Obj q k) e) ∙ ap (λ x. option_map (partly k r q) (link_of old x)) (before-next k e))
+        ∙ ap (option_map (swapped_end (Obj r k) (Obj q k))) (c.links (swapped_end (Obj r k) (Obj q k) e) ∙ ap (λ x. option_map (partly k r q) (link_of old x)) (before-next k e))
         ∙ both (link_of old (partly (k + 1) r q e));
     shape = shape-then old.cells mid.cells new.cells c.shape shape;
     usages = usages ∙ c.usages;
@@ -125,7 +125,7 @@ module _ (r q : Ref) (apart : q ≢ r) where
       ends_apart : Obj r k ≢ Obj q k
       ends_apart e = let same : r ≡ q = cc in apart (sym same)
 
-      both : (o : Option End) → option_map (swapped (Obj r k) (Obj q k)) (option_map (partly k r q) o) ≡ option_map (partly (k + 1) r q) o
+      both : (o : Option End) → option_map (swapped_end (Obj r k) (Obj q k)) (option_map (partly k r q) o) ≡ option_map (partly (k + 1) r q) o
       both None = refl
       both (Some y) = ap (λ x. Some x) (after-next k y)
 

@@ -17,7 +17,7 @@ use Rattle.lsa_region.specs.declared.end.Root.{Root}
 use Rattle.lsa_region.specs.declared.end.End.{End}
 use Rattle.lsa_region.specs.declared.end.End.TheVariants.{Obj, Slot}
 use Rattle.lsa_region.specs.Codes.{end_of}
-use Rattle.lsa_region.specs.Ends.{joined, swapped, slots_in, IsSlotMade}
+use Rattle.lsa_region.specs.Ends.{end_in_slot, swapped_end, slots_in, IsSlotMade}
 use Rattle.lsa_region.specs.calls.Ends.{IsSlotDropped}
 use Rattle.lsa_region.specs.Layout.{Location}
 use Rattle.lsa_region.specs.Paired.{IsTied, IsParted, IsExchanged}
@@ -31,7 +31,7 @@ use Rattle.lsa_region.proofs.Wells.{well-tie, well-part}
 pub well-exchange : (v v' : View) → IsWell v → ((e : End) → IsEnd v e → IsEnd v' e) → (a b : End) → IsExchanged (link_of v) (link_of v') a b → a ≢ b → IsEnd v a → IsEnd v b → IsWell v'
 well-exchange v v' well ends a b exchanged differ at bt = record {
   paired = exchanged-well (link_of v) (link_of v') a b differ exchanged well.paired;
-  ends = λ x y e. ends y (swapped-holds a b y (IsEnd v) at bt (well.ends (swapped a b x) (swapped a b y) (exchanged-from (link_of v) (link_of v') a b differ exchanged x y e)));
+  ends = λ x y e. ends y (swapped-holds a b y (IsEnd v) at bt (well.ends (swapped_end a b x) (swapped_end a b y) (exchanged-from (link_of v) (link_of v') a b differ exchanged x y e)));
 }
 
 module _ (v v' : View) (region : IsRegion v) (ends : (e : End) → IsEnd v e → IsEnd v' e) (reserve : 0 < free_count v'.usages) (a b : End) where
@@ -208,7 +208,7 @@ region-write v v' r change region is reserve = region-same v v' region is.links 
 -- where nothing stands and there is no root slot, nothing is named
 pub none-open : (v : View) → ((n : ℕ) → cells_of v.cells n ≡ []) → v.roots ≡ [] → (e : End) → link_of v e ≡ None
 none-open v cells roots (Obj r field) = ap end_of (word-none v.cells r field (ap (λ l. cell_at l r.offset) (cells r.segment)))
-none-open v cells roots (Slot s) = ap (λ l. joined (get_or l s.number None)) roots
+none-open v cells roots (Slot s) = ap (λ l. end_in_slot (get_or l s.number None)) roots
 
 pub region-open : (v : View) → ((n : ℕ) → cells_of v.cells n ≡ []) → v.roots ≡ [] → 0 < free_count v.usages → IsRegion v
 region-open v cells roots reserve =
@@ -227,11 +227,11 @@ module _ (v v' : View) (cells : v'.cells ≡ v.cells) where
   same_ends n others (Obj q field) other h = subst (λ l. IsSomeAnd (body_in l q) (λ b. field < links_of b.0)) (sym cells) h
   same_ends n others (Slot s) other h = (h.0, others s.number (λ e. other (ap (λ k. Slot (record { number = k })) e)) ∙ h.1)
 
-  same_links : (n : ℕ) → joined (get_or v.roots n None) ≡ None → joined (get_or v'.roots n None) ≡ None → ((m : ℕ) → m ≢ n → get_or v'.roots m None ≡ get_or v.roots m None) → (e : End) → link_of v' e ≡ link_of v e
+  same_links : (n : ℕ) → end_in_slot (get_or v.roots n None) ≡ None → end_in_slot (get_or v'.roots n None) ≡ None → ((m : ℕ) → m ≢ n → get_or v'.roots m None ≡ get_or v.roots m None) → (e : End) → link_of v' e ≡ link_of v e
   same_links n was is others (Obj r field) = ap (λ l. end_of (word_in l r field)) cells
   same_links n was is others (Slot s) = elim (decided s.number n) [
-    | inl e ↦ ap (λ k. joined (get_or v'.roots k None)) e ∙ is ∙ sym (ap (λ k. joined (get_or v.roots k None)) e ∙ was)
-    | inr ne ↦ ap joined (others s.number ne)
+    | inl e ↦ ap (λ k. end_in_slot (get_or v'.roots k None)) e ∙ is ∙ sym (ap (λ k. end_in_slot (get_or v.roots k None)) e ∙ was)
+    | inr ne ↦ ap end_in_slot (others s.number ne)
   ]
 
 same_slot : (e : End) (n : ℕ) → (e ≡ Slot (record { number = n })) ⊎ (e ≢ Slot (record { number = n }))
@@ -239,13 +239,13 @@ same_slot e n = ends_decided e (Slot (record { number = n }))
 
 pub root-added : (v v' : View) (n : ℕ) → v'.cells ≡ v.cells → IsSlotMade v.roots v'.roots n → IsRootAdded v v' (record { number = n })
 root-added v v' n cells made =
-    let links = same_links v v' cells n (ap joined made.fresh) (ap joined made.here) made.others in
+    let links = same_links v v' cells n (ap end_in_slot made.fresh) (ap end_in_slot made.here) made.others in
     let back : (e : End) → e ≢ Slot (record { number = n }) → IsEnd v' e → IsEnd v e = same_ends v' v (sym cells) n (λ m ne. sym (made.others m ne)) in
     let fresh : IsEnd v (Slot (record { number = n })) → ⊥ = λ h. let clash = sym made.fresh ∙ h.1 in cc in
     record {
       fresh = fresh;
       here = (None, made.here);
-      unset = ap joined made.here;
+      unset = ap end_in_slot made.here;
       links = links;
       ends = λ e h. elim (same_slot e n) [ inl is ↦ absurd (fresh (subst (IsEnd v) is h)) | inr ne ↦ same_ends v v' cells n made.others e ne h ];
       gone = back;
@@ -253,9 +253,9 @@ root-added v v' n cells made =
       bound = made.bound;
     }
 
-pub root-dropped : (v v' : View) (n : ℕ) → v'.cells ≡ v.cells → joined (get_or v.roots n None) ≡ None → IsSlotDropped v.roots v'.roots n → IsRootDropped v v' (record { number = n })
+pub root-dropped : (v v' : View) (n : ℕ) → v'.cells ≡ v.cells → end_in_slot (get_or v.roots n None) ≡ None → IsSlotDropped v.roots v'.roots n → IsRootDropped v v' (record { number = n })
 root-dropped v v' n cells unset dropped =
-    let links = same_links v v' cells n unset (ap joined dropped.here) dropped.others in
+    let links = same_links v v' cells n unset (ap end_in_slot dropped.here) dropped.others in
     let gone : IsEnd v' (Slot (record { number = n })) → ⊥ = λ h. let clash = sym dropped.here ∙ h.1 in cc in
     record {
       here = gone;
@@ -279,7 +279,7 @@ region-root-dropped v v' r region usages unset is =
 -- links whose numbers are the same name the same
 pub links-same : (v v' : View) (e : End) → v'.roots ≡ v.roots → ((q : Ref) (field : ℕ) → word_in v'.cells q field ≡ word_in v.cells q field) → link_of v' e ≡ link_of v e
 links-same v v' (Obj q field) roots words = ap end_of (words q field)
-links-same v v' (Slot s) roots words = ap (λ l. joined (get_or l s.number None)) roots
+links-same v v' (Slot s) roots words = ap (λ l. end_in_slot (get_or l s.number None)) roots
 
 pub bodies-open : (v : View) → ((n : ℕ) → cells_of v.cells n ≡ []) → (r : Ref) → body v r ≡ None
 bodies-open v cells r = ap (λ l. body_at l r.offset) (cells r.segment)
@@ -305,7 +305,7 @@ freed-object v v' r some unset w roots =
     freed v v' r (gone-here v.cells v'.cells r some w) (λ q ne. body-same v.cells v'.cells q (gone-others v.cells v'.cells r some w q ne)) links roots
   where
     links : (e : End) → link_of v' e ≡ link_of v e
-    links (Slot s) = ap (λ l. joined (get_or l s.number None)) roots
+    links (Slot s) = ap (λ l. end_in_slot (get_or l s.number None)) roots
     links (Obj q field) = elim (refs_decided q r) [
       | inl e ↦ ap (λ p. link_of v' (Obj p field)) e ∙ ap end_of (gone-unset v.cells v'.cells r some w field) ∙ sym (unset field) ∙ ap (λ p. link_of v (Obj p field)) (sym e)
       | inr ne ↦ ap end_of (word-same v.cells v'.cells q field (gone-others v.cells v'.cells r some w q ne))

@@ -19,7 +19,7 @@ use Rattle.lsa_region.specs.declared.end.End.{End}
 use Rattle.lsa_region.specs.declared.end.End.TheVariants.{Obj, Slot}
 use Rattle.lsa_region.specs.Codes.{end_of}
 use Rattle.lsa_region.specs.calls.Codes.{link_code, IsCodable}
-use Rattle.lsa_region.specs.Ends.{SlotCounts, slots_in, named_in, IsEndIn, joined}
+use Rattle.lsa_region.specs.Ends.{SlotCounts, slots_in, named_in, IsEndIn, end_in_slot}
 use Rattle.lsa_region.specs.calls.Ends.{IsSetIn, IsSameShape}
 use Rattle.lsa_region.specs.laws.Refs.{refs_decided}
 use Rattle.lsa_region.proofs.Codes.{end-code, code-small}
@@ -96,10 +96,10 @@ pub set-root : (cells : List (List Cell)) (roots : List (Option (Option End))) (
     → IsSetIn cells roots cells (set roots root.number (Some named)) (Slot root) named
 set-root cells roots root named has =
     let n = root.number in let roots' = set roots n (Some named) in let inside = there roots n has.0 has.1 in record {
-      here = ap joined (get_or-set_same roots n (Some named) None inside);
+      here = ap end_in_slot (get_or-set_same roots n (Some named) None inside);
       others = λ other. elim other as (λ (o : End). o ≢ Slot root → named_in cells roots' o ≡ named_in cells roots o) [
         | Obj s g ↦ λ ne. refl
-        | Slot other ↦ λ ne. ap joined (get_or-set_other roots n other.number (Some named) None (λ e. ne (ap (λ k. Slot (record { number = k })) e)))
+        | Slot other ↦ λ ne. ap end_in_slot (get_or-set_other roots n other.number (Some named) None (λ e. ne (ap (λ k. Slot (record { number = k })) e)))
       ];
       ends = end-kept cells cells roots roots' (λ r. refl) (λ other h. elim (decided other.number n) [
         | inl e ↦ (named, ap (λ k. get_or roots' k None) e ∙ get_or-set_same roots n (Some named) None inside)

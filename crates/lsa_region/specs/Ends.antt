@@ -9,13 +9,13 @@ use Rattle.lsa_region.specs.declared.end.End.TheVariants.{Obj, Slot}
 use Rattle.lsa_region.specs.Codes.{end_of}
 
 -- what a root slot names; nothing where there is no such slot
-abbrev pub joined : Option (Option End) → Option End
-joined None = None
-joined (Some named) = named
+abbrev pub end_in_slot : Option (Option End) → Option End
+end_in_slot None = None
+end_in_slot (Some named) = named
 
 -- what the root slot of this number names
 abbrev pub root_of : List (Option (Option End)) → ℕ → Option End
-root_of roots n = joined (slice_index_or roots n None)
+root_of roots n = end_in_slot (slice_index_or roots n None)
 
 -- how many root slots are there, and the bound below which the number of each lies
 pub record SlotCounts : Type 0 where
@@ -68,8 +68,8 @@ same_end (Slot root) (Obj r field) = false
 same_end (Slot root) (Slot other) = nat_eq root.number other.number
 
 -- a where it was b, b where it was a, and else the same
-abbrev pub swapped : End → End → End → End
-swapped a b e = cond (same_end e a) b (cond (same_end e b) a e)
+abbrev pub swapped_end : End → End → End → End
+swapped_end a b e = cond (same_end e a) b (cond (same_end e b) a e)
 
 -- r where it was q, q where it was r, and else the same
 abbrev pub swapped_ref : Ref → Ref → Ref → Ref

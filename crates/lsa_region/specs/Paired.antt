@@ -2,7 +2,7 @@
 use Rattle.std.specs.Prelude.{◌≡◌, ◌≢◌, Option, Some, None}
 use Rattle.std.specs.Option.{option_map}
 use Rattle.lsa_region.specs.declared.end.End.{End}
-use Rattle.lsa_region.specs.Ends.{swapped}
+use Rattle.lsa_region.specs.Ends.{swapped_end}
 
 -- an end names another one exactly where that one names it, and none names itself
 pub record WellPaired (named : End → Option End) : Type 0 where
@@ -23,6 +23,6 @@ pub record IsParted (old new : End → Option End) (a b : End) : Type 0 where
 
 -- the two ends have changed places: each names what the other one named, and their mates name the other one; two ends that named each other still do
 pub record IsExchanged (old new : End → Option End) (a b : End) : Type 0 where
-  pub first : new a ≡ option_map (swapped a b) (old b)
-  pub second : new b ≡ option_map (swapped a b) (old a)
-  pub others : (e : End) → e ≢ a → e ≢ b → new e ≡ option_map (swapped a b) (old e)
+  pub first : new a ≡ option_map (swapped_end a b) (old b)
+  pub second : new b ≡ option_map (swapped_end a b) (old a)
+  pub others : (e : End) → e ≢ a → e ≢ b → new e ≡ option_map (swapped_end a b) (old e)

@@ -2,7 +2,7 @@
 ghost use Rattle.std.specs.Prelude.{◌≡◌, ℕ, ◌+◌, ◌^◌, ◌<◌, ◌≤◌, List, length, Some, None, IsSome};
 ghost use Rattle.lsa_kinds.specs.declared.kind.Kind.{Kind};
 ghost use Rattle.lsa_kinds.specs.Kinds.{links_of};
-ghost use Rattle.lsa_kinds.specs.Fields.{spelled, IsPut};
+ghost use Rattle.lsa_kinds.specs.Fields.{spelled_number, IsPut};
 ghost use Rattle.lsa_store.specs.Bytes.{overwritten};
 ghost use Rattle.lsa_store.specs.declared.place.Ref.{Ref};
 ghost use Rattle.lsa_region.specs.declared.end.End.{End};
@@ -32,5 +32,5 @@ pub fn a_renaming_is_one_to_one()
 
 /// A number written over an object's bytes reads back, and every field apart from it reads as it did.
 pub fn a_written_number_reads_back()
-    ensures { (bytes : List ℕ) (offset width value : ℕ) → offset + width ≤ length bytes → value < 256 ^ width → IsPut bytes (overwritten bytes offset (spelled width value)) offset width value }
+    ensures { (bytes : List ℕ) (offset width value : ℕ) → offset + width ≤ length bytes → value < 256 ^ width → IsPut bytes (overwritten bytes offset (spelled_number width value)) offset width value }
 {}

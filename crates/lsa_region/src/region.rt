@@ -4,7 +4,7 @@ ghost use Rattle.lsa_store.specs.declared.place.Ref.{Ref as Name};
 ghost use Rattle.lsa_region.specs.declared.end.Root.{Root as Slot};
 ghost use Rattle.lsa_store.specs.Account.{IsSound};
 ghost use Rattle.lsa_store.specs.Room.{active_of, free_count, live_sum, spare_of};
-ghost use Rattle.lsa_kinds.specs.Fields.{spelled, IsPut};
+ghost use Rattle.lsa_kinds.specs.Fields.{spelled_number, IsPut};
 ghost use Rattle.lsa_store.specs.Bytes.{overwritten};
 ghost use Rattle.lsa_store.specs.Objects.{cells_of, rounded_size};
 ghost use Rattle.lsa_store.specs.Stock.{sparse_of};
@@ -164,8 +164,8 @@ impl<const S: usize> Region<S> {
         requires inside { IsSomeAnd (body self.old r) (λ b. field.0 + field.1 ≤ length b.1) }
         requires width { field.1 ≤ 8 }
         requires fits { value < 256 ^ field.1 }
-        ensures written { IsWritten self.old self.new r (λ b. overwritten b field.0 (spelled field.1 value)) }
-        ensures put { IsSomeAnd (body self.old r) (λ b. IsPut b.1 (overwritten b.1 field.0 (spelled field.1 value)) field.0 field.1 value) }
+        ensures written { IsWritten self.old self.new r (λ b. overwritten b field.0 (spelled_number field.1 value)) }
+        ensures put { IsSomeAnd (body self.old r) (λ b. IsPut b.1 (overwritten b.1 field.0 (spelled_number field.1 value)) field.0 field.1 value) }
         ensures count { objects self.new ≡ objects self.old }
         ensures well { IsWell self.new }
     {

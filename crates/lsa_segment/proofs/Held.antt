@@ -6,7 +6,7 @@ use Rattle.std.proofs.lemmas.Nat.{row_fits, mul-le}
 use Rattle.std.proofs.lemmas.List.{length-map, length-replicate, map-append, append_assoc, take_at, take_all, drop-append-le, drop-drop, drop-take, take-take, take-map, get_or-set_same, get_or-set_other, get_or-replicate, get_or_past, set-get_or, ext_get_or, length-take-le, get_or_read}
 use Rattle.circular_buffer.specs.Places.{somes}
 use Rattle.lsa_segment.specs.Bytes.{part, overwritten}
-use Rattle.lsa_segment.specs.Places.{written, used_places, used_bytes, AreLaid}
+use Rattle.lsa_segment.specs.Places.{written_places, used_places, used_bytes, AreLaid}
 use Rattle.lsa_segment.proofs.Written.{some, somes-map, length-written, outside, middle-written, run-part, run-long}
 
 pub length-used_bytes : (size : ℕ) (used : List ℕ) (places : List (Option ℕ)) → length (used_bytes size used places) ≡ length used
@@ -62,7 +62,7 @@ lent size places n count bytes offset len s inside =
 abbrev pub AreApart : ℕ → List (Option ℕ) → List (Option ℕ) → ℕ → Type 0
 AreApart size places places' n = (m : ℕ) → m ≢ n → (count : ℕ) → count ≤ size → take count (drop (m * size) places') ≡ take count (drop (m * size) places)
 
-pub apart : (size : ℕ) (places : List (Option ℕ)) (n k : ℕ) (new : List ℕ) → n * size + size ≤ length places → k + length new ≤ size → AreApart size places (written places (n * size + k) new) n
+pub apart : (size : ℕ) (places : List (Option ℕ)) (n k : ℕ) (new : List ℕ) → n * size + size ≤ length places → k + length new ≤ size → AreApart size places (written_places places (n * size + k) new) n
 apart size places n k new inside fits m ne count most =
     outside places (n * size + k) new (m * size) count (omega arith)
     (elim (cases_lt m n) [ inl lt ↦ inl (omega (arith, row_fits m size n size lt (omega arith))) | inr le ↦ let lt : n < m = omega (arith, ne) in inr (omega (arith, row_fits n size m size lt (omega arith))) ])
@@ -111,8 +111,8 @@ changed size used places places' all n count bytes h e less long others fits is 
 -- bytes behind those of a segment
 pub appended : (size : ℕ) (used : List ℕ) (places : List (Option ℕ)) (all : List (List ℕ)) (n : ℕ) (new : List ℕ) → AreLaid size used places → used_bytes size used places ≡ all → n < length all
     → length (get_or all n []) + length new ≤ size
-    → let count = get_or used n 0 in AreLaid size (set used n (count + length new)) (written places (n * size + count) new)
-    × (used_bytes size (set used n (count + length new)) (written places (n * size + count) new) ≡ set all n (get_or all n [] ++ new))
+    → let count = get_or used n 0 in AreLaid size (set used n (count + length new)) (written_places places (n * size + count) new)
+    × (used_bytes size (set used n (count + length new)) (written_places places (n * size + count) new) ≡ set all n (get_or all n [] ++ new))
 appended size used places all n new h e less fits =
     let count = get_or used n 0 in let bytes = get_or all n [] in let s = segment size used places all n h e less in let at = n * size + count in
     let front = take at places in let middle : List (Option ℕ) = map some new in let rest = drop (at + length new) places in
@@ -120,19 +120,19 @@ appended size used places all n new h e less fits =
     let long : length (take at places) ≡ at = length-take-le at places (omega arith) in
     let start : drop (n * size) front ≡ map some bytes = drop-take (n * size) count places ∙ s.set in
     let total : length (map some bytes ++ middle) ≡ count + length new = omega (arith, length-append (map some bytes) middle, length-map bytes some, length-map new some, s.long) in
-    let is : take (count + length new) (drop (n * size) (written places at new)) ≡ map some (bytes ++ new) =
+    let is : take (count + length new) (drop (n * size) (written_places places at new)) ≡ map some (bytes ++ new) =
     ap (take (count + length new)) (drop-append-le (n * size) front (middle ++ rest) (omega (arith, long)) ∙ ap (λ l. l ++ (middle ++ rest)) start ∙ sym (append_assoc (map some bytes) middle rest))
     ∙ take_at (map some bytes ++ middle) rest (count + length new) total ∙ sym (map-append some bytes new) in
-    changed size used places (written places at new) all n (count + length new) (bytes ++ new) h e less (length-written places at new inside)
+    changed size used places (written_places places at new) all n (count + length new) (bytes ++ new) h e less (length-written places at new inside)
     (apart size places n count new s.inside (omega (arith, s.long))) (omega (arith, s.long)) is
 
 -- bytes over those of a segment
 pub replaced : (size : ℕ) (used : List ℕ) (places : List (Option ℕ)) (all : List (List ℕ)) (n offset : ℕ) (new : List ℕ) → AreLaid size used places → used_bytes size used places ≡ all → n < length all
     → offset + length new ≤ length (get_or all n [])
-    → AreLaid size used (written places (n * size + offset) new) × (used_bytes size used (written places (n * size + offset) new) ≡ set all n (overwritten (get_or all n []) offset new))
+    → AreLaid size used (written_places places (n * size + offset) new) × (used_bytes size used (written_places places (n * size + offset) new) ≡ set all n (overwritten (get_or all n []) offset new))
 replaced size used places all n offset new h e less fits =
     let count = get_or used n 0 in let bytes = get_or all n [] in let s = segment size used places all n h e less in let base = n * size in let at = base + offset in
-    let l = length new in let r = count - (offset + l) in let places' = written places at new in
+    let l = length new in let r = count - (offset + l) in let places' = written_places places at new in
     let inside : at + l ≤ length places = omega (arith, s.long, s.most, s.inside) in
     let whole : count ≡ offset + (l + r) = omega (arith, s.long) in
     let far : at + l ≡ base + (offset + l) = omega arith in let all_of : take r (drop (offset + l) bytes) ≡ drop (offset + l) bytes = take_all r (drop (offset + l) bytes) (omega (arith, length-drop (offset + l) bytes, s.long)) in

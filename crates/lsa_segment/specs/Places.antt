@@ -3,8 +3,8 @@ use Rattle.std.specs.Prelude.{◌≡◌, ℕ, ◌+◌, ◌*◌, ◌≤◌, ◌^�
 use Rattle.circular_buffer.specs.Places.{somes}
 
 -- the places with these bytes in as many of them, from the index on
-abbrev pub written : List (Option ℕ) → ℕ → List ℕ → List (Option ℕ)
-written places from bytes = take from places ++ (map Some bytes ++ drop (from + length bytes) places)
+abbrev pub written_places : List (Option ℕ) → ℕ → List ℕ → List (Option ℕ)
+written_places places from bytes = take from places ++ (map Some bytes ++ drop (from + length bytes) places)
 
 -- the used places of segment n, where size is a segment's
 abbrev pub used_places : ℕ → List ℕ → List (Option ℕ) → ℕ → List (Option ℕ)

@@ -1,7 +1,7 @@
 //! A block of places for bytes, each unset until it is written. It goes back to its allocator when it is dropped.
 ghost use Rattle.std.specs.Prelude.{◌≡◌, ℕ, ◌+◌, ◌^◌, ◌<◌, ◌≤◌, ◌⊎◌, Some, None, length, map, take, drop, replicate, IfOk};
 ghost use Rattle.circular_buffer.specs.Places.{IsRun, somes};
-ghost use Rattle.lsa_segment.specs.Places.{written};
+ghost use Rattle.lsa_segment.specs.Places.{written_places};
 
 use crate::raw::{Owned, Right, Start, allocate, deallocate};
 use std::alloc::{AllocError, Global};
@@ -67,7 +67,7 @@ impl Block {
     // Sets as many places from `from` on to these bytes, whatever stood there.
     pub(crate) fn write(&mut self, from: usize, source: &[u8])
         requires { from + length source.now ≤ length self.old }
-        ensures { self.new ≡ written self.old from source.now }
+        ensures { self.new ≡ written_places self.old from source.now }
     {
         put(&mut self.bytes, self.start, from, source);
     }
@@ -77,7 +77,7 @@ impl Block {
         requires set { IsRun self.old from len }
         requires inside { to + len ≤ length self.old }
         requires apart { (from + len ≤ to) ⊎ (to + len ≤ from) }
-        ensures { self.new ≡ written self.old to (somes (take len (drop from self.old))) }
+        ensures { self.new ≡ written_places self.old to (somes (take len (drop from self.old))) }
     {
         copy_over(&mut self.bytes, self.start, from, len, to);
     }
@@ -88,7 +88,7 @@ fn put(bytes: &mut Owned, start: Start, from: usize, source: &[u8])
     requires inside { from + length source.now ≤ length bytes.old.bytes }
     requires small { length bytes.old.bytes < 2 ^ 64 }
     ensures start { bytes.new.at ≡ bytes.old.at }
-    ensures after { bytes.new.bytes ≡ written bytes.old.bytes from source.now }
+    ensures after { bytes.new.bytes ≡ written_places bytes.old.bytes from source.now }
 {
     for index in 0..source.len() {
         bytes.write(start, from + index, source[index]);
@@ -102,7 +102,7 @@ fn copy_over(bytes: &mut Owned, start: Start, from: usize, len: usize, to: usize
     requires apart { (from + len ≤ to) ⊎ (to + len ≤ from) }
     requires small { length bytes.old.bytes < 2 ^ 64 }
     ensures start { bytes.new.at ≡ bytes.old.at }
-    ensures after { bytes.new.bytes ≡ written bytes.old.bytes to (somes (take len (drop from bytes.old.bytes))) }
+    ensures after { bytes.new.bytes ≡ written_places bytes.old.bytes to (somes (take len (drop from bytes.old.bytes))) }
 {
     for index in 0..len {
         let byte = bytes.slice(start, from + index, 1)[0];

@@ -3,19 +3,19 @@ use Rattle.std.specs.Prelude.{◌≡◌, ◌⊎◌, ℕ, zero, suc, nat_eq, cond
 use Rattle.lsa_path.specs.Ref.{Ref}
 use Rattle.lsa_path.specs.End.{End}
 use Rattle.lsa_path.specs.End.TheVariants.{Obj, Slot}
-use Rattle.lsa_path.specs.Path.{entered}
+use Rattle.lsa_path.specs.Path.{entered_object}
 use Rattle.lsa_shape.specs.Shapes.{TreeShape, Leaf, Node}
 use Rattle.lsa_shape.specs.Ways.{Fork, ForkAt}
 
 -- the tree of an object, if there is one
-abbrev pub rooted : (Ref → TreeShape) → Option Ref → TreeShape
-rooted tree None = Leaf
-rooted tree (Some r) = tree r
+abbrev pub tree_or_leaf : (Ref → TreeShape) → Option Ref → TreeShape
+tree_or_leaf tree None = Leaf
+tree_or_leaf tree (Some r) = tree r
 
 -- the shape that the links from an end on say, so many levels at most
 abbrev pub shape_at : ℕ → (End → Option End) → End → TreeShape
 shape_at zero named a = Leaf
-shape_at (suc most) named a = rooted (λ r. Node (shape_at most named (Obj r 3)) r (shape_at most named (Obj r 4))) (entered 2 (named a))
+shape_at (suc most) named a = tree_or_leaf (λ r. Node (shape_at most named (Obj r 3)) r (shape_at most named (Obj r 4))) (entered_object 2 (named a))
 
 -- one more than what an end gives, if one is named
 abbrev pub one_more : (End → ℕ) → Option End → ℕ

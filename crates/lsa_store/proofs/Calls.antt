@@ -7,7 +7,7 @@ use Rattle.std.proofs.lemmas.List.Sums.{sum_by-set, sum_by-cons}
 use Rattle.lsa_yard.specs.laws.Reading.{size-least}
 use Rattle.lsa_kinds.specs.declared.kind.Kind.{Kind}
 use Rattle.lsa_kinds.specs.Kinds.{links_of, up8}
-use Rattle.lsa_kinds.specs.Fields.{spelled}
+use Rattle.lsa_kinds.specs.Fields.{spelled_number}
 use Rattle.lsa_kinds.specs.laws.Fields.{length-spelled}
 use Rattle.lsa_yard.specs.Bytes.{overwritten}
 use Rattle.lsa_pool.specs.declared.Usage.{Usage}
@@ -64,8 +64,8 @@ module _ (size : ℕ) (cells : List (List Cell)) (us : List Usage) (v : Stored) 
   linked-store r field value cells' linked changed =
       let f = object-and cells r (λ (b : Kind × List ℕ). field < links_of b.0) (at_parts r (λ b. field < links_of b.0) linked) in let x = f.0 in
       let fits = fitting-at size (record { cells = cells; usages = us }) r x.cell s x.here in
-      let inside : 8 * field + length (spelled 8 value) ≤ length x.cell.rest = omega (arith, length-spelled 8 value, f.1, fits.proper.linked, ap links_size x.is) in
-      let new = fitting-rest size x.cell (8 * field) (spelled 8 value) fits inside in
+      let inside : 8 * field + length (spelled_number 8 value) ≤ length x.cell.rest = omega (arith, length-spelled 8 value, f.1, fits.proper.linked, ap links_size x.is) in
+      let new = fitting-rest size x.cell (8 * field) (spelled_number 8 value) fits inside in
       changed-object r (with_link field value) x.cell cells' x.here changed new.0 new.1 refl
 
   pub written-store : (r : Ref) (from : ℕ) (bytes : List ℕ) (cells' : List (List Cell)) → IsSomeAnd (body_in v.cells r) (λ b. from + length bytes ≤ length b.1) → IsChangedIn cells cells' r (with_bytes from bytes)

@@ -18,7 +18,7 @@ use Rattle.lsa_shape.specs.laws.Rotations.{off-link}
 use Rattle.lsa_tree.specs.declared.tree.Tree.{Tree}
 use Rattle.lsa_tree.specs.Entries.{IsEntryKind, IsEntryAtPosition, balance_in, balance_of}
 use Rattle.lsa_tree.specs.Tree.{IsTop, IsTree, IsLoose, IsOffTree, SameButBalances}
-use Rattle.lsa_tree.specs.calls.Placing.{IsEntryBody, IsFormed, IsTreeChanged, IsTraded, traded}
+use Rattle.lsa_tree.specs.calls.Placing.{IsEntryBody, IsFormed, IsTreeChanged, IsTraded, traded_end}
 use Rattle.lsa_tree.specs.laws.Orders.{ascending-replaced}
 use Rattle.lsa_tree.specs.laws.Trees.{entry-no-top, entry-long, in-tree, tree-in, tree-entry, tree-once, tree-pairs, loose-beside, trees-apart}
 use Rattle.lsa_tree.proofs.Placed.{body-kind, formed-tree, tree-formed}
@@ -48,7 +48,7 @@ module _ (tree : Tree) (v w : View) (well : IsWell v) (r q : Ref) (ne : r ≢ q)
   traded-beside e off_r off_q mate =
       ap (link_of w) (sym (traded-other r q ne e (λ f low high. (off-link e r f low high off_r, off-link e q f low high off_q)))) ∙ t.links e ∙ stays (link_of v e) mate
     where
-      stays : (o : Option End) → ((f : ℕ) → 2 ≤ f → f ≤ 4 → (o ≢ Some (Obj r f)) × (o ≢ Some (Obj q f))) → option_map (traded r q) o ≡ o
+      stays : (o : Option End) → ((f : ℕ) → 2 ≤ f → f ≤ 4 → (o ≢ Some (Obj r f)) × (o ≢ Some (Obj q f))) → option_map (traded_end r q) o ≡ o
       stays None m = refl
       stays (Some d) m = ap (λ x. Some x) (traded-other r q ne d (λ f low high. ((λ is. (m f low high).0 (ap (λ x. Some x) is)), (λ is. (m f low high).1 (ap (λ x. Some x) is)))))
 
@@ -56,12 +56,12 @@ module _ (tree : Tree) (v w : View) (well : IsWell v) (r q : Ref) (ne : r ≢ q)
     top_off : (z : Ref) → IsEntryBody (body v z) → IsOff tree.top z
     top_off z h = let off = λ (n : ℕ) (is : tree.top ≡ Obj z n). entry-no-top v tree.top z n f.top (body-kind (body v z) h) (sym is) in (off 2, off 3, off 4)
 
-    top_same : traded r q tree.top ≡ tree.top
+    top_same : traded_end r q tree.top ≡ tree.top
     top_same = traded-other r q ne tree.top (λ n low high. (off-link tree.top r n low high (top_off r body_r), off-link tree.top q n low high (top_off q body_q)))
 
     pub traded-hangs : HangsAt (link_of w) tree.top (shape_by (swapped_ref r q) s)
     traded-hangs = subst (λ e. HangsAt (link_of w) e (shape_by (swapped_ref r q) s)) top_same
-        (hangs-mapped (link_of v) (link_of w) (traded r q) (swapped_ref r q) tree.top s (λ z i n low high. traded-end r q ne z n low high) (t.links tree.top) (λ z i n low high. t.links (Obj z n)) f.hangs)
+        (hangs-mapped (link_of v) (link_of w) (traded_end r q) (swapped_ref r q) tree.top s (λ z i n low high. traded-end r q ne z n low high) (t.links tree.top) (λ z i n low high. t.links (Obj z n)) f.hangs)
 
     pub traded-levels : (n : ℕ) → IsLevel (balance_of v) s n → IsLevel (balance_of w) (shape_by (swapped_ref r q) s) n
     traded-levels n level = level-mapped (balance_of v) (balance_of w) (swapped_ref r q) s n (λ z i. traded-level z) level
@@ -160,7 +160,7 @@ module _ (tree : Tree) (v w : View) (well : IsWell v) (r q : Ref) (front back : 
 
     out_link : (n : ℕ) → 2 ≤ n → n ≤ 4 → link_of w (Obj r n) ≡ None
     out_link n low high =
-        ap (link_of w) (sym (traded-end r q replaced-apart q n low high ∙ ap (λ z. Obj z n) (swap-there r q (λ e. replaced-apart (sym e))))) ∙ t.links (Obj q n) ∙ ap (option_map (traded r q)) (unset n low high)
+        ap (link_of w) (sym (traded-end r q replaced-apart q n low high ∙ ap (λ z. Obj z n) (swap-there r q (λ e. replaced-apart (sym e))))) ∙ t.links (Obj q n) ∙ ap (option_map (traded_end r q)) (unset n low high)
 
     pub replaced-out : IsLoose w r
     replaced-out = record {

@@ -10,7 +10,7 @@ use Rattle.lsa_region.specs.declared.end.End.TheVariants.{Obj, Slot}
 use Rattle.lsa_region.specs.Layout.{object_extent}
 use Rattle.lsa_region.specs.Region.{View, body, link_of, IsEnd, IsWell, IsSummed, live_bytes}
 use Rattle.lsa_region.specs.laws.Sizes.{rounded_32}
-use Rattle.lsa_shape.specs.Path.{entered}
+use Rattle.lsa_shape.specs.Path.{entered_object}
 use Rattle.lsa_shape.specs.Members.{member-first, member-later, member-here, once-split}
 use Rattle.lsa_shape.specs.declared.flank.Flank.{Flank}
 use Rattle.lsa_shape.specs.declared.flank.Flank.TheVariants.{Low, High}
@@ -45,18 +45,18 @@ body-there v r f h le = entry-end v r f (body-kind (body v r) h) le
 -- ---- what hangs at an end
 
 module _ (named : End → Option End) (a : End) where
-  pub below-none : (s : TreeShape) → HangsAt named a s → entered 2 (named a) ≡ None → s ≡ Leaf
+  pub below-none : (s : TreeShape) → HangsAt named a s → entered_object 2 (named a) ≡ None → s ≡ Leaf
   below-none Leaf h none = refl
-  below-none (Node l r t) h none = let clash : Some r ≡ None = sym (ap (entered 2) h.0) ∙ none in cc
+  below-none (Node l r t) h none = let clash : Some r ≡ None = sym (ap (entered_object 2) h.0) ∙ none in cc
 
-  pub below-some : (flank : Flank) (s : TreeShape) (r : Ref) → HangsAt named a s → entered 2 (named a) ≡ Some r → (near : TreeShape) × (far : TreeShape) × (s ≡ node_on flank near r far)
-  below-some flank Leaf r h some = let clash : None ≡ Some r = sym (ap (entered 2) h) ∙ some in cc
-  below-some Low (Node l q t) r h some = let same : Some q ≡ Some r = sym (ap (entered 2) h.0) ∙ some in let first : q ≡ r = cc in (l, t, ap (λ z. Node l z t) first)
-  below-some High (Node l q t) r h some = let same : Some q ≡ Some r = sym (ap (entered 2) h.0) ∙ some in let first : q ≡ r = cc in (t, l, ap (λ z. Node l z t) first)
+  pub below-some : (flank : Flank) (s : TreeShape) (r : Ref) → HangsAt named a s → entered_object 2 (named a) ≡ Some r → (near : TreeShape) × (far : TreeShape) × (s ≡ node_on flank near r far)
+  below-some flank Leaf r h some = let clash : None ≡ Some r = sym (ap (entered_object 2) h) ∙ some in cc
+  below-some Low (Node l q t) r h some = let same : Some q ≡ Some r = sym (ap (entered_object 2) h.0) ∙ some in let first : q ≡ r = cc in (l, t, ap (λ z. Node l z t) first)
+  below-some High (Node l q t) r h some = let same : Some q ≡ Some r = sym (ap (entered_object 2) h.0) ∙ some in let first : q ≡ r = cc in (t, l, ap (λ z. Node l z t) first)
 
-  pub below-node : (flank : Flank) (near far : TreeShape) (r : Ref) → HangsAt named a (node_on flank near r far) → entered 2 (named a) ≡ Some r
-  below-node Low near far r h = ap (entered 2) h.0
-  below-node High near far r h = ap (entered 2) h.0
+  pub below-node : (flank : Flank) (near far : TreeShape) (r : Ref) → HangsAt named a (node_on flank near r far) → entered_object 2 (named a) ≡ Some r
+  below-node Low near far r h = ap (entered_object 2) h.0
+  below-node High near far r h = ap (entered_object 2) h.0
 
   pub below-unset : HangsAt named a Leaf → named a ≡ None
   below-unset h = h

@@ -10,7 +10,7 @@ use Rattle.lsa_region.specs.declared.end.End.TheVariants.{Obj}
 use Rattle.lsa_region.specs.Ends.{swapped_ref}
 use Rattle.lsa_region.specs.Region.{View, body, link_of, IsWell}
 use Rattle.lsa_region.specs.laws.Refs.{swap-here, swap-there, swap-else}
-use Rattle.lsa_shape.specs.Path.{entered}
+use Rattle.lsa_shape.specs.Path.{entered_object}
 use Rattle.lsa_shape.specs.Members.{member-cases, member-first, member-later, member-here, map-members, once-split}
 use Rattle.lsa_shape.specs.declared.flank.Flank.{Flank}
 use Rattle.lsa_shape.specs.declared.flank.Flank.TheVariants.{Low, High}
@@ -25,7 +25,7 @@ use Rattle.lsa_tree.specs.declared.tree.Tree.{Tree}
 use Rattle.lsa_tree.specs.Entries.{balance_of}
 use Rattle.lsa_tree.specs.Search.{first_entry}
 use Rattle.lsa_tree.specs.Tree.{IsTree}
-use Rattle.lsa_tree.specs.calls.Placing.{IsEntryBody, IsFormed, IsPlaced, IsTreeChanged, IsTraded, Loosened, IsCut, IsOut, traded}
+use Rattle.lsa_tree.specs.calls.Placing.{IsEntryBody, IsFormed, IsPlaced, IsTreeChanged, IsTraded, Loosened, IsCut, IsOut, traded_end}
 use Rattle.lsa_tree.specs.laws.Trees.{in-tree, tree-in, tree-pairs}
 use Rattle.lsa_tree.proofs.Placed.{below-none, formed-clear, formed-hole, formed-member, split-once, tree-at, tree-formed}
 use Rattle.lsa_tree.proofs.Changed.{changed-then, changed-wider}
@@ -78,10 +78,10 @@ module _ (tree : Tree) (v : View) (well : IsWell v) (front back : List Ref) (r :
   hangs = (formed-hole tree v (front ++ (r ∷ back)) well at.0 (Node at.1 r at.2) at.5.form).0
 
   pub left_leaf : link_of v (Obj r 3) ≡ None → Node at.1 r at.2 ≡ node_on High at.2 r Leaf
-  left_leaf none = ap (λ s. Node s r at.2) (below-none (link_of v) (Obj r 3) at.1 hangs.1 (ap (entered 2) none))
+  left_leaf none = ap (λ s. Node s r at.2) (below-none (link_of v) (Obj r 3) at.1 hangs.1 (ap (entered_object 2) none))
 
   pub right_leaf : link_of v (Obj r 4) ≡ None → Node at.1 r at.2 ≡ node_on Low at.1 r Leaf
-  right_leaf none = ap (λ s. Node at.1 r s) (below-none (link_of v) (Obj r 4) at.2 hangs.2 (ap (entered 2) none))
+  right_leaf none = ap (λ s. Node at.1 r s) (below-none (link_of v) (Obj r 4) at.2 hangs.2 (ap (entered_object 2) none))
 
   abbrev pub loosened-left : link_of v (Obj r 3) ≡ None → Loosened v High r
   loosened-left none = loosened-at High at.0 at.2 at.3 at.4 (Node at.1 r at.2) at.5 (left_leaf none)
@@ -118,7 +118,7 @@ module _ (tree : Tree) (v : View) (well : IsWell v) (front back : List Ref) (r :
     out-right none cut = out_of Low at.0 at.1 at.3 at.4 (Node at.1 r at.2) at.5 (right_leaf none) cut
 
   -- nothing on the left
-  pub unset-left : entered 2 (link_of v (Obj r 3)) ≡ None → link_of v (Obj r 3) ≡ None
+  pub unset-left : entered_object 2 (link_of v (Obj r 3)) ≡ None → link_of v (Obj r 3) ≡ None
   unset-left none = subst (HangsAt (link_of v) (Obj r 3)) (below-none (link_of v) (Obj r 3) at.1 hangs.1 none) hangs.1
 
   -- ---- where it changed places with the next one
@@ -178,10 +178,10 @@ module _ (tree : Tree) (v : View) (well : IsWell v) (front back : List Ref) (r :
       form_r = subst (IsFormed tree m ((front ++ (next ∷ [])) ++ (r ∷ rest))) (sym to_r.3) new_form
 
       left_none : link_of m (Obj r 3) ≡ None
-      left_none = ap (link_of m) (sym (traded-end r next next-apart next 3 (omega arith) (omega arith) ∙ ap (λ z. Obj z 3) (swap-there r next (λ e. next-apart (sym e))))) ∙ t.links (Obj next 3) ∙ ap (option_map (traded r next)) unset
+      left_none = ap (link_of m) (sym (traded-end r next next-apart next 3 (omega arith) (omega arith) ∙ ap (λ z. Obj z 3) (swap-there r next (λ e. next-apart (sym e))))) ∙ t.links (Obj next 3) ∙ ap (option_map (traded_end r next)) unset
 
       pub leaf : Node to_r.1 r to_r.2 ≡ node_on High to_r.2 r Leaf
-      leaf = ap (λ s. Node s r to_r.2) (below-none (link_of m) (Obj r 3) to_r.1 (formed-hole tree m ((front ++ (next ∷ [])) ++ (r ∷ rest)) well_m to_r.0 (Node to_r.1 r to_r.2) form_r).0.1 (ap (entered 2) left_none))
+      leaf = ap (λ s. Node s r to_r.2) (below-none (link_of m) (Obj r 3) to_r.1 (formed-hole tree m ((front ++ (next ∷ [])) ++ (r ∷ rest)) well_m to_r.0 (Node to_r.1 r to_r.2) form_r).0.1 (ap (entered_object 2) left_none))
 
       abbrev pub loosened-next : Loosened m High r
       loosened-next = record {

@@ -9,7 +9,7 @@ use Rattle.lsa_region.specs.Ref.{Ref}
 use Rattle.lsa_region.specs.declared.end.End.{End}
 use Rattle.lsa_region.specs.declared.end.End.TheVariants.{Obj}
 use Rattle.lsa_region.specs.Region.{View, link_of, IsEnd, IsWell, IsSummed, live_bytes}
-use Rattle.lsa_shape.specs.Path.{entered}
+use Rattle.lsa_shape.specs.Path.{entered_object}
 use Rattle.lsa_shape.specs.Members.{member-here}
 use Rattle.lsa_shape.specs.declared.flank.Flank.TheVariants.{Low, High}
 use Rattle.lsa_shape.specs.Shapes.{TreeShape, Leaf, Node, inorder, HangsAt}
@@ -87,7 +87,7 @@ module _ (tree : Tree) (v : View) (well : IsWell v) (summed : IsSummed v) (x : P
     list = sym reached.place.form.order ∙ inorder-plug way s
 
     -- nothing hangs there
-    module _ (none : entered 2 (link_of v at) ≡ None) where
+    module _ (none : entered_object 2 (link_of v at) ≡ None) where
       leaf : s ≡ Leaf
       leaf = below-none (link_of v) at s hangs none
 
@@ -127,7 +127,7 @@ module _ (tree : Tree) (v : View) (well : IsWell v) (summed : IsSummed v) (x : P
           )
 
     -- an entry hangs there
-    module _ (r : Ref) (some : entered 2 (link_of v at) ≡ Some r) where
+    module _ (r : Ref) (some : entered_object 2 (link_of v at) ≡ Some r) where
       root : (l : TreeShape) × (t : TreeShape) × (s ≡ Node l r t)
       root = below-some (link_of v) at Low s r hangs some
 

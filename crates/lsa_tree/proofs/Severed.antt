@@ -5,7 +5,7 @@ use Rattle.std.specs.Option.{option_map}
 use Rattle.lsa_region.specs.Ref.{Ref}
 use Rattle.lsa_region.specs.declared.end.End.{End}
 use Rattle.lsa_region.specs.declared.end.End.TheVariants.{Obj}
-use Rattle.lsa_region.specs.Ends.{swapped}
+use Rattle.lsa_region.specs.Ends.{swapped_end}
 use Rattle.lsa_region.specs.Paired.{IsExchanged, IsParted}
 use Rattle.lsa_region.specs.Region.{View, body, link_of, IsEnd, IsWell, SameObjects}
 use Rattle.lsa_region.specs.laws.Exchanges.{swap-other, swap-second}
@@ -102,7 +102,7 @@ module _ (v : View) (well : IsWell v) (flank : Flank) (r : Ref) (l : Loosened v 
 
       -- and the entry below itself
       loop_near : link_of m (Obj r (near_link flank)) ≡ Some (Obj r 2)
-      loop_near = ex.second ∙ ap (option_map (swapped place (Obj r (near_link flank)))) parts.0
+      loop_near = ex.second ∙ ap (option_map (swapped_end place (Obj r (near_link flank)))) parts.0
           ∙ ap (λ e. Some e) (swap-other place (Obj r (near_link flank)) (Obj r 2) (λ e. place_link r 2 root_in (omega arith) (omega arith) (sym e)) two_near)
 
       loop_back : link_of m (Obj r 2) ≡ Some (Obj r (near_link flank))

@@ -5,7 +5,7 @@ use Rattle.lsa_region.specs.Ref.{Ref}
 use Rattle.lsa_region.specs.declared.end.End.{End}
 use Rattle.lsa_region.specs.declared.end.End.TheVariants.{Obj}
 use Rattle.lsa_region.specs.Region.{View, body, link_of, IsEnd, IsWell}
-use Rattle.lsa_shape.specs.Path.{entered}
+use Rattle.lsa_shape.specs.Path.{entered_object}
 use Rattle.lsa_shape.specs.declared.flank.Flank.{Flank}
 use Rattle.lsa_shape.specs.declared.flank.Flank.TheVariants.{Low, High}
 use Rattle.lsa_shape.specs.Flanks.{other_flank, far_link, near_heavy, far_heavy}
@@ -198,12 +198,12 @@ module _ (v : View) (well : IsWell v) (at : End) (p : PlaceIn v at) where
         hangs_here : HangsAt (link_of v) at p.shape
         hangs_here = subst (λ e. HangsAt (link_of v) e p.shape) p.end (formed-hole p.tree v p.refs well p.way p.shape p.is.form).0
 
-        pub rise-child : IsEnd v at × IsSome (entered 2 (link_of v at))
+        pub rise-child : IsEnd v at × IsSome (entered_object 2 (link_of v at))
         rise-child =
             let root = level-root (balance_of v) flank p.shape (suc around.0) (subst (IsLevel (balance_of v) p.shape) deep p.is.level) in
             (subst (IsEnd v) p.end (formed-there p.tree v p.refs p.way p.shape p.is.form), ap is_some (below-node (link_of v) at flank root.0 root.2 root.1 (subst (HangsAt (link_of v) at) root.3 hangs_here)))
 
-        module _ (x : Ref) (child : entered 2 (link_of v at) ≡ Some x) where
+        module _ (x : Ref) (child : entered_object 2 (link_of v at) ≡ Some x) where
           pub root_of : (near : TreeShape) × (far : TreeShape) × (p.shape ≡ node_on flank near x far)
           root_of = below-some (link_of v) at flank p.shape x hangs_here child
 
@@ -284,12 +284,12 @@ module _ (v : View) (well : IsWell v) (at : End) (p : PlaceIn v at) where
         beside_hangs : HangsAt (link_of v) (Obj q (far_link flank)) fork.0
         beside_hangs = (hangs-node (link_of v) flank (hole p.tree.top fork.1) p.shape q fork.0 hangs.0).2
 
-        pub sink-child : IsEnd v (Obj q (far_link flank)) × IsSome (entered 2 (link_of v (Obj q (far_link flank))))
+        pub sink-child : IsEnd v (Obj q (far_link flank)) × IsSome (entered_object 2 (link_of v (Obj q (far_link flank))))
         sink-child =
             let root = level-root (balance_of v) flank fork.0 (suc p.here) (subst (IsLevel (balance_of v) fork.0) deeper around.2) in
             (body-there v q (far_link flank) owner-body (far-most flank), ap is_some (below-node (link_of v) (Obj q (far_link flank)) flank root.0 root.2 root.1 (subst (HangsAt (link_of v) (Obj q (far_link flank))) root.3 beside_hangs)))
 
-        module _ (x : Ref) (child : entered 2 (link_of v (Obj q (far_link flank))) ≡ Some x) where
+        module _ (x : Ref) (child : entered_object 2 (link_of v (Obj q (far_link flank))) ≡ Some x) where
           pub beside_root : (near : TreeShape) × (far : TreeShape) × (fork.0 ≡ node_on other near x far)
           beside_root = below-some (link_of v) (Obj q (far_link flank)) other fork.0 x beside_hangs child
 

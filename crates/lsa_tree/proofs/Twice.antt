@@ -6,7 +6,7 @@ use Rattle.lsa_region.specs.declared.end.End.{End}
 use Rattle.lsa_region.specs.declared.end.End.TheVariants.{Obj}
 use Rattle.lsa_region.specs.Region.{View, body, link_of, IsEnd, IsWell, SameObjects}
 use Rattle.lsa_region.specs.laws.Refs.{refs_decided}
-use Rattle.lsa_shape.specs.Path.{entered}
+use Rattle.lsa_shape.specs.Path.{entered_object}
 use Rattle.lsa_shape.specs.declared.flank.Flank.{Flank}
 use Rattle.lsa_shape.specs.Flanks.{other_flank, near_link, far_link, near_heavy, far_heavy}
 use Rattle.lsa_shape.specs.Shapes.{TreeShape, IsIn, HangsAt, IsClearOf, node_on}
@@ -59,14 +59,14 @@ module _ (v : View) (well : IsWell v) (flank : Flank) (at : End) (p x : Ref) (s 
       let outer = hangs-node (link_of v) flank (hole s.tree.top s.way) (node_on flank s.near x s.between) p s.far (formed-hole s.tree v s.refs well s.way (node_on flank (node_on flank s.near x s.between) p s.far) s.form).0 in
       (hangs-node (link_of v) flank (Obj p (near_link flank)) s.near x s.between outer.1).2
 
-  pub twice-there : IsEnd v (Obj x (far_link flank)) × IsSome (entered 2 (link_of v (Obj x (far_link flank))))
+  pub twice-there : IsEnd v (Obj x (far_link flank)) × IsSome (entered_object 2 (link_of v (Obj x (far_link flank))))
   twice-there =
       let root = level-root (balance_of v) flank s.between s.low between_level in (
         body-there v x (far_link flank) (steep-x v well flank at p x s) (far-most flank),
         ap is_some (below-node (link_of v) (Obj x (far_link flank)) flank root.0 root.2 root.1 (subst (HangsAt (link_of v) (Obj x (far_link flank))) root.3 between_hangs)),
       )
 
-  module _ (z : Ref) (child : entered 2 (link_of v (Obj x (far_link flank))) ≡ Some z) where
+  module _ (z : Ref) (child : entered_object 2 (link_of v (Obj x (far_link flank))) ≡ Some z) where
     root : (b : TreeShape) × (d : TreeShape) × (s.between ≡ node_on flank b z d)
     root = below-some (link_of v) (Obj x (far_link flank)) flank s.between z between_hangs child
 

@@ -6,7 +6,7 @@ use Rattle.lsa_region.specs.Ref.{Ref}
 use Rattle.lsa_region.specs.declared.end.End.{End}
 use Rattle.lsa_region.specs.declared.end.End.TheVariants.{Obj}
 use Rattle.lsa_region.specs.Region.{View, link_of, IsEnd, IsWell, IsSummed, live_bytes}
-use Rattle.lsa_shape.specs.Path.{entered}
+use Rattle.lsa_shape.specs.Path.{entered_object}
 use Rattle.lsa_shape.specs.declared.flank.Flank.{Flank}
 use Rattle.lsa_shape.specs.declared.flank.Flank.TheVariants.{Low, High}
 use Rattle.lsa_shape.specs.Flanks.{other_flank, near_link}
@@ -57,16 +57,16 @@ module _ (v : View) (well : IsWell v) (summed : IsSummed v) (side : Flank) (star
     edging-hangs : HangsAt (link_of v) at t
     edging-hangs = subst (λ d. HangsAt (link_of v) d t) e.end (formed-hole p.tree v p.refs well way t e.form).0
 
-    edging_leaf : entered 2 (link_of v at) ≡ None → t ≡ Leaf
+    edging_leaf : entered_object 2 (link_of v at) ≡ None → t ≡ Leaf
     edging_leaf none = below-none (link_of v) at t edging-hangs none
 
-    pub edging-found : entered 2 (link_of v at) ≡ None → found ≡ outermost side None p.shape
+    pub edging-found : entered_object 2 (link_of v at) ≡ None → found ≡ outermost side None p.shape
     edging-found none = sym (e.same ∙ ap (outermost side found) (edging_leaf none))
 
-    pub edging-unset : entered 2 (link_of v at) ≡ None → link_of v at ≡ None
+    pub edging-unset : entered_object 2 (link_of v at) ≡ None → link_of v at ≡ None
     edging-unset none = below-unset (link_of v) at (subst (HangsAt (link_of v) at) (edging_leaf none) edging-hangs)
 
-    pub edging-step : (r : Ref) → entered 2 (link_of v at) ≡ Some r → (next : List Fork) × (u : TreeShape) × IsEdging v side start p (Some r) (Obj r (near_link side)) next u × (shape_size u < shape_size t)
+    pub edging-step : (r : Ref) → entered_object 2 (link_of v at) ≡ Some r → (next : List Fork) × (u : TreeShape) × IsEdging v side start p (Some r) (Obj r (near_link side)) next u × (shape_size u < shape_size t)
     edging-step r some =
         let w = below-some (link_of v) at side t r edging-hangs some in
         let node = node_on side w.0 r w.1 in (
@@ -79,7 +79,7 @@ module _ (v : View) (well : IsWell v) (summed : IsSummed v) (side : Flank) (star
     pub edging-size : size_below v at ≡ shape_size t
     edging-size = subst (λ d. size_below v d ≡ shape_size t) e.end (ap shape_size (formed-read p.tree v p.refs well summed way t e.form))
 
-  pub edging-smaller : (found : Option Ref) (at : End) (way : List Fork) (t : TreeShape) → IsEdging v side start p found at way t → (r : Ref) → entered 2 (link_of v at) ≡ Some r → size_below v (Obj r (near_link side)) < size_below v at
+  pub edging-smaller : (found : Option Ref) (at : End) (way : List Fork) (t : TreeShape) → IsEdging v side start p found at way t → (r : Ref) → entered_object 2 (link_of v at) ≡ Some r → size_below v (Obj r (near_link side)) < size_below v at
   edging-smaller found at way t e r some =
       let w = edging-step found at way t e r some in
       omega (arith, w.3, edging-size found at way t e, edging-size (Some r) (Obj r (near_link side)) w.0 w.1 w.2)
@@ -220,7 +220,7 @@ module _ (v : View) (well : IsWell v) (summed : IsSummed v) where
       let w = tree-at tree v well front back r h in let way = w.0 in
       let n = sided side w.1 w.2 r in
       let hangs = subst (HangsAt (link_of v) (hole tree.top way)) n.2 (formed-hole tree v (front ++ (r ∷ back)) well way (Node w.1 r w.2) w.5.form).0 in
-      let leaf : n.0 ≡ Leaf = below-none (link_of v) (Obj r (near_link side)) n.0 (hangs-node (link_of v) side (hole tree.top way) n.0 r n.1 hangs).1 (ap (entered 2) unset) in (
+      let leaf : n.0 ≡ Leaf = below-none (link_of v) (Obj r (near_link side)) n.0 (hangs-node (link_of v) side (hole tree.top way) n.0 r n.1 hangs).1 (ap (entered_object 2) unset) in (
         way,
         w.1,
         w.2,

@@ -2,7 +2,7 @@
 ghost use Rattle.std.specs.Prelude.{◌≡◌, ◌≢◌, ◌<◌, Some, IsSome};
 ghost use Rattle.lsa_region.specs.declared.end.End.TheVariants.{Obj};
 ghost use Rattle.lsa_region.specs.Region.{body, link_of, IsEnd, IsWell, SameObjects};
-ghost use Rattle.lsa_shape.specs.Path.{entered};
+ghost use Rattle.lsa_shape.specs.Path.{entered_object};
 ghost use Rattle.lsa_shape.specs.Flanks.{near_link, far_link};
 ghost use Rattle.lsa_tree.specs.Entries.{balance_of};
 ghost use Rattle.lsa_tree.specs.calls.Placing.{IsEntryBody, IsRebalanced, IsRotated, IsTraded, owner_of};
@@ -22,7 +22,7 @@ pub(crate) const RIGHT: u8 = 4;
 
 /// The entry that is entered where an end names this, if there is one.
 fn object(named: Option<End>) -> Option<Ref>
-    ensures { result ≡ entered 2 named }
+    ensures { result ≡ entered_object 2 named }
 {
     match named {
         Some(End::Obj(r, field)) => { if field == PARENT { Some(r) } else { None } }
@@ -34,7 +34,7 @@ fn object(named: Option<End>) -> Option<Ref>
 /// The entry that hangs at an end, if there is one.
 pub(crate) fn below<const S: usize>(region: &Region<S>, at: End) -> Option<Ref>
     requires { IsEnd region.now at }
-    ensures { result ≡ entered 2 (link_of region.now at) }
+    ensures { result ≡ entered_object 2 (link_of region.now at) }
 {
     object(region.link_of(at))
 }
@@ -42,8 +42,8 @@ pub(crate) fn below<const S: usize>(region: &Region<S>, at: End) -> Option<Ref>
 /// The entry that hangs at an end at which one hangs.
 pub(crate) fn child<const S: usize>(region: &Region<S>, at: End) -> Ref
     requires there { IsEnd region.now at }
-    requires set { IsSome (entered 2 (link_of region.now at)) }
-    ensures { entered 2 (link_of region.now at) ≡ Some result }
+    requires set { IsSome (entered_object 2 (link_of region.now at)) }
+    ensures { entered_object 2 (link_of region.now at) ≡ Some result }
 {
     match below(region, at) {
         Some(r) => r,

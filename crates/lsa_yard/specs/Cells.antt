@@ -3,7 +3,7 @@ use Rattle.std.specs.Prelude.{◌≡◌, ℕ, zero, suc, ◌+◌, ◌-◌, ◌*�
 use Rattle.std.specs.Option.{option_map, option_and_then}
 use Rattle.lsa_kinds.specs.declared.kind.Kind.{Kind}
 use Rattle.lsa_kinds.specs.Kinds.{up8, links_of}
-use Rattle.lsa_kinds.specs.Fields.{number_at, spelled}
+use Rattle.lsa_kinds.specs.Fields.{number_at, spelled_number}
 use Rattle.lsa_segment.specs.Bytes.{overwritten}
 
 -- an object, or the gap that a freed one left, which has no kind: the bytes behind its header, links first
@@ -49,7 +49,7 @@ fresh kind bytes = record { kind = Some kind; rest = replicate (8 * links_of kin
 
 -- a cell with this number in the link
 abbrev pub with_link : ℕ → ℕ → Cell → Cell
-with_link field value c = record c { rest = overwritten c.rest (8 * field) (spelled 8 value) }
+with_link field value c = record c { rest = overwritten c.rest (8 * field) (spelled_number 8 value) }
 
 -- a cell with these bytes over those behind its links, from the offset on
 abbrev pub with_bytes : ℕ → List ℕ → Cell → Cell

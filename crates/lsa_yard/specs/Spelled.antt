@@ -3,7 +3,7 @@ use Rattle.std.specs.Prelude.{◌≡◌, ℕ, zero, suc, ◌+◌, ◌-◌, ◌^�
 use Rattle.lsa_kinds.specs.declared.kind.Kind.{Kind}
 use Rattle.lsa_kinds.specs.declared.kind.Kind.TheVariants.{Version, RowEntry, Dummy, Static}
 use Rattle.lsa_kinds.specs.Kinds.{kind_code, up8}
-use Rattle.lsa_kinds.specs.Fields.{number_at, spelled}
+use Rattle.lsa_kinds.specs.Fields.{number_at, spelled_number}
 use Rattle.lsa_yard.specs.Cells.{Cell, size_of, links_size}
 
 -- the first byte of a cell: the number of its kind, 0 for a gap
@@ -22,7 +22,7 @@ kind_numbered (suc (suc (suc (suc (suc n))))) = None
 
 -- the header's last 4 bytes: the size before it is rounded up
 unfoldable pub size_field : ℕ → List ℕ
-size_field size = spelled 4 size
+size_field size = spelled_number 4 size
 
 -- the bytes of a cell: the header, of which three bytes are 0, the rest, and zeros up to its size
 abbrev pub spell : Cell → List ℕ

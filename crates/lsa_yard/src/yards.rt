@@ -1,6 +1,6 @@
 //! The yards: in each segment objects, one behind the other, each with its header and its links.
 ghost use Rattle.std.specs.Prelude.{◌≡◌, ◌≢◌, ℕ, ◌+◌, ◌-◌, ◌*◌, ◌^◌, ◌<◌, ◌≤◌, [], ◌∷◌, ◌++◌, length, replicate, slice_index_or, slice_set, is_some, All, IsSome, IsSomeAnd, IfOk};
-ghost use Rattle.lsa_kinds.specs.Fields.{number, spelled};
+ghost use Rattle.lsa_kinds.specs.Fields.{number, spelled_number};
 ghost use Rattle.lsa_kinds.specs.Kinds.{kind_code, links_of, up8};
 ghost use Rattle.lsa_yard.specs.Cells.{size_of, extent, cell_at, body_at, link_in, fresh, with_link, with_bytes, gap_of, IsChangedAt};
 ghost use Rattle.lsa_yard.specs.Spelled.{size_field, IsProper};
@@ -249,7 +249,7 @@ fn word(bytes: &[u8]) -> u64
 
 // The 8 bytes that spell a number.
 fn word_bytes(value: u64) -> [u8; 8]
-    ensures { result ≡ spelled 8 value }
+    ensures { result ≡ spelled_number 8 value }
 {
     value.to_le_bytes()
 }

@@ -18,18 +18,18 @@ use Rattle.rc_core.specs.declared.entries.Flag.{Flag}
 use Rattle.rc_core.specs.declared.entries.Flag.TheVariants.{Known, Unknown, Inherit}
 use Rattle.rc_core.specs.Parts.{IsClear}
 use Rattle.rc_core.specs.SpotState.{SpotState, over, through}
-use Rattle.rc_core.specs.Version.{Behind, On, Spot, Version, entry_answers, gap_ordering, seen, spot_cmp, state_at, state_of}
+use Rattle.rc_core.specs.Version.{Behind, On, Spot, Version, entry_answers, finding_in, gap_ordering, spot_cmp, state_at, state_of}
 use Rattle.rc_core.specs.laws.Folding.{content-through}
 use Rattle.rc_core.specs.laws.Spots.{turn_to}
 
 -- ---- no row is in an open gap
 
-entry-row : (r : Ordering) (e : Entry) (x : Pos) (es : List Entry) → (seen (Behind x) es).row ≡ None → (entry_answers (gap_ordering r) e (seen (Behind x) es)).row ≡ None
+entry-row : (r : Ordering) (e : Entry) (x : Pos) (es : List Entry) → (finding_in (Behind x) es).row ≡ None → (entry_answers (gap_ordering r) e (finding_in (Behind x) es)).row ≡ None
 entry-row Less e x es h = refl
 entry-row Equal e x es h = h
 entry-row Greater e x es h = h
 
-gap-row : (x : Pos) (es : List Entry) → (seen (Behind x) es).row ≡ None
+gap-row : (x : Pos) (es : List Entry) → (finding_in (Behind x) es).row ≡ None
 gap-row x [] = refl
 gap-row x (e ∷ es) = entry-row (pos_cmp x e.position) e x es (gap-row x es)
 
@@ -69,14 +69,14 @@ module _ (x to y : Pos) (behind : IsBefore x y) (before : IsBefore y to) where
       back g = from (pos_cmp x e.position) refl g
 
   module _ (s : Spot) (like : (e : Entry) → pos_cmp y e.position ≡ Less → spot_cmp s e.position ≡ Less) (unlike : (e : Entry) → pos_cmp y e.position ≡ Greater → spot_cmp s e.position ≡ Greater) where
-    one-alike : (e : Entry) (es : List Entry) → (IsBefore x e.position → IsBefore e.position to → ⊥) → seen s es ≡ seen (Behind x) es → seen s (e ∷ es) ≡ seen (Behind x) (e ∷ es)
-    one-alike e es clear rest = elim (pos_cmp x e.position) as (λ r. pos_cmp x e.position ≡ r → entry_answers (spot_cmp s e.position) e (seen s es) ≡ entry_answers (gap_ordering r) e (seen (Behind x) es)) [
-      | Less ↦ λ o. ap (λ r. entry_answers r e (seen s es)) (like e ((entry-on e clear).0 o))
-      | Equal ↦ λ o. ap (λ r. entry_answers r e (seen s es)) (unlike e ((entry-on e clear).1 (ap gap_ordering o))) ∙ rest
-      | Greater ↦ λ o. ap (λ r. entry_answers r e (seen s es)) (unlike e ((entry-on e clear).1 (ap gap_ordering o))) ∙ rest
+    one-alike : (e : Entry) (es : List Entry) → (IsBefore x e.position → IsBefore e.position to → ⊥) → finding_in s es ≡ finding_in (Behind x) es → finding_in s (e ∷ es) ≡ finding_in (Behind x) (e ∷ es)
+    one-alike e es clear rest = elim (pos_cmp x e.position) as (λ r. pos_cmp x e.position ≡ r → entry_answers (spot_cmp s e.position) e (finding_in s es) ≡ entry_answers (gap_ordering r) e (finding_in (Behind x) es)) [
+      | Less ↦ λ o. ap (λ r. entry_answers r e (finding_in s es)) (like e ((entry-on e clear).0 o))
+      | Equal ↦ λ o. ap (λ r. entry_answers r e (finding_in s es)) (unlike e ((entry-on e clear).1 (ap gap_ordering o))) ∙ rest
+      | Greater ↦ λ o. ap (λ r. entry_answers r e (finding_in s es)) (unlike e ((entry-on e clear).1 (ap gap_ordering o))) ∙ rest
     ] refl
 
-    seen-alike : (es : List Entry) → IsClear x to es → seen s es ≡ seen (Behind x) es
+    seen-alike : (es : List Entry) → IsClear x to es → finding_in s es ≡ finding_in (Behind x) es
     seen-alike [] h = refl
     seen-alike (e ∷ es) h = one-alike e es h.0 (seen-alike es h.1)
 

@@ -6,7 +6,7 @@ use Rattle.rc_cell.specs.Winner.{greatest}
 use Rattle.rc_mutation.specs.declared.mutations.Mutation.{Mutation}
 use Rattle.rc_mutation.specs.Source.{IsMutation, source_at_head, source_at_static}
 use Rattle.rc_mutation.specs.laws.Sources.{head-one, statics-one}
-use Rattle.rc_core.specs.Chain.{content, flagged}
+use Rattle.rc_core.specs.Chain.{content, has_flag}
 use Rattle.rc_core.specs.Continuity.{static_states, version_tombs}
 use Rattle.rc_core.specs.declared.entries.ChainKind.{ChainKind}
 use Rattle.rc_core.specs.Version.{Version}
@@ -17,7 +17,7 @@ use Rattle.rc_agreement.specs.calls.Walking.{AllSaid}
 -- a head that was given is that of the versions
 pub record IsGivenOf (kind : ChainKind) (versions : List Version) (h : ReadHead) : Type 0 where
   pub pt : h.pt ≡ greatest tomb_cmp (version_tombs versions)
-  pub known : h.known ≡ flagged kind (static_states versions)
+  pub known : h.known ≡ has_flag kind (static_states versions)
 
 module _ (kind : ChainKind) (versions : List Version) (h : ReadHead) (given : IsGivenOf kind versions h) (m : Mutation) (is : IsMutation m) where
   abbrev pub IsSame : Type 0
@@ -33,5 +33,5 @@ module _ (kind : ChainKind) (versions : List Version) (h : ReadHead) (given : Is
     gaps = all.gaps;
   }
 
-  pub head-same : greatest tomb_cmp (version_tombs versions) ≡ source_at_head (m ∷ []) → (IsTrue (flagged kind (static_states versions)) → source_at_static (m ∷ []) ≡ (content (static_states versions)).0) → IsSame
+  pub head-same : greatest tomb_cmp (version_tombs versions) ≡ source_at_head (m ∷ []) → (IsTrue (has_flag kind (static_states versions)) → source_at_static (m ∷ []) ≡ (content (static_states versions)).0) → IsSame
   head-same pt row = (given.pt ∙ pt ∙ head-one m, λ t. sym (statics-one m is) ∙ row (sym given.known ∙ t))

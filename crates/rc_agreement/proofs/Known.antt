@@ -11,7 +11,7 @@ use Rattle.rc_mutation.specs.declared.mutations.Mutation.{Mutation}
 use Rattle.rc_mutation.specs.Fragments.{is_written}
 use Rattle.rc_mutation.specs.Source.{SameSource}
 use Rattle.rc_mutation.specs.laws.Written.{unwritten}
-use Rattle.rc_core.specs.Chain.{IsBare, IsKnown, content, flagged, states_at}
+use Rattle.rc_core.specs.Chain.{IsBare, IsKnown, content, has_flag, states_at}
 use Rattle.rc_core.specs.declared.entries.ChainKind.{ChainKind}
 use Rattle.rc_core.specs.Version.{Behind, On, Version, end_position}
 use Rattle.rc_memory.specs.Memory.{Memory}
@@ -50,14 +50,14 @@ bare-or versions x = by (pos_cmp x end_position) refl
 
 -- and known or not
 pub known-or : (kind : ChainKind) (versions : List Version) (x : Pos) → IsKnown kind versions x ⊎ (IsKnown kind versions x → ⊥)
-known-or kind versions x = at (flagged kind (states_at (On x) versions)) refl
+known-or kind versions x = at (has_flag kind (states_at (On x) versions)) refl
   where
-    gap : IsTrue (flagged kind (states_at (On x) versions)) → (b : Bool) → flagged kind (states_at (Behind x) versions) ≡ b → IsKnown kind versions x ⊎ (IsKnown kind versions x → ⊥)
+    gap : IsTrue (has_flag kind (states_at (On x) versions)) → (b : Bool) → has_flag kind (states_at (Behind x) versions) ≡ b → IsKnown kind versions x ⊎ (IsKnown kind versions x → ⊥)
     gap t true e = inl (record { at = t; gap = λ _. e })
     gap t false e = ⊎_elim (λ bare. inr (λ h. (let u : true ≡ false = sym (h.gap bare) ∙ e in cc))) (λ off. inl (record { at = t; gap = λ bare. absurd (off bare) })) (bare-or versions x)
 
-    at : (b : Bool) → flagged kind (states_at (On x) versions) ≡ b → IsKnown kind versions x ⊎ (IsKnown kind versions x → ⊥)
-    at true e = gap e (flagged kind (states_at (Behind x) versions)) refl
+    at : (b : Bool) → has_flag kind (states_at (On x) versions) ≡ b → IsKnown kind versions x ⊎ (IsKnown kind versions x → ⊥)
+    at true e = gap e (has_flag kind (states_at (Behind x) versions)) refl
     at false e = inr (λ h. (let u : true ≡ false = sym h.at ∙ e in cc))
 
 -- where knowledge and the other gaps are said, all is

@@ -24,7 +24,7 @@ use Rattle.rc_core.specs.declared.entries.Mark.{Mark}
 use Rattle.rc_core.specs.Parts.{IsClear, IsReach, SomeHasEntryAt}
 use Rattle.rc_core.specs.SpotState.{SpotState, over, spot_state, through, under}
 use Rattle.rc_core.specs.Steps.{pin_at}
-use Rattle.rc_core.specs.Version.{Behind, Version, end_position, found, seen, state_at, state_of}
+use Rattle.rc_core.specs.Version.{Behind, Version, end_position, finding_in, finding_of, state_at, state_of}
 use Rattle.rc_core.specs.laws.Folding.{through-append, under-above}
 use Rattle.rc_core.specs.laws.Losing.{tomb-alone}
 use Rattle.rc_core.specs.laws.Pins.{pin-is-pinned}
@@ -106,7 +106,7 @@ gap-none x gap inside f t e = record {
   reach = record { ahead = subst (IsBefore x) (sym e) inside; within = inl e; clear = tt; stops = inl e };
 }
 
-gap-of : (older : List Version) (v : Version) (x : Pos) (below : GapBehind) → IsGapSeen older x below → (mark : Mark) (next : Option Pos) → seen (Behind x) v.entries ≡ found mark None → IsNextAt x v.entries next → (now : GapBehind) → now.flag ≡ flag_above below.flag mark.flag → now.tomb ≡ tomb_above below.tomb mark mark.flag → now.to ≡ nearer_end below.to next → IsGapSeen (older ++ v ∷ []) x now
+gap-of : (older : List Version) (v : Version) (x : Pos) (below : GapBehind) → IsGapSeen older x below → (mark : Mark) (next : Option Pos) → finding_in (Behind x) v.entries ≡ finding_of mark None → IsNextAt x v.entries next → (now : GapBehind) → now.flag ≡ flag_above below.flag mark.flag → now.tomb ≡ tomb_above below.tomb mark mark.flag → now.to ≡ nearer_end below.to next → IsGapSeen (older ++ v ∷ []) x now
 gap-of older v x below h mark next says n now f t e =
     let here : state_at (Behind x) v ≡ spot_state mark.flag [] (option_to_list mark.tomb) = ap state_of says in
     let all : through (states_at (Behind x) (older ++ v ∷ [])) ≡ over mark.flag (through (states_at (Behind x) older)) (spot_state mark.flag [] (option_to_list mark.tomb)) = one-more x older v ∙ ap (under (through (states_at (Behind x) older))) here in record {

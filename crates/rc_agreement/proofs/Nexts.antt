@@ -13,7 +13,7 @@ use Rattle.rc_core.specs.AtPlace.{EachEntry, HasEntryAt}
 use Rattle.rc_core.specs.declared.entries.Entry.{Entry}
 use Rattle.rc_core.specs.Parts.{IsClear}
 use Rattle.rc_core.specs.Plain.{no_mark}
-use Rattle.rc_core.specs.Version.{Ascend, Behind, Version, entry_answers, found, gap_ordering, seen, spot_cmp}
+use Rattle.rc_core.specs.Version.{Ascend, Behind, Version, entry_answers, finding_in, finding_of, gap_ordering, spot_cmp}
 use Rattle.rc_core.specs.laws.Placed.{each-wider}
 use Rattle.rc_core.specs.laws.Surgery.{back-above, front-below}
 use Rattle.rc_version.specs.Versions.{HoldEntries, IsVersionOf}
@@ -39,14 +39,14 @@ answers-not x e h = elim (pos_cmp x e.position) as (λ r. pos_cmp x e.position �
   | Greater ↦ λ o. refl
 ] refl
 
-passed : (x : Pos) (front rest : List Entry) → EachEntry (StandsUpTo x) front → seen (Behind x) (front ++ rest) ≡ seen (Behind x) rest
+passed : (x : Pos) (front rest : List Entry) → EachEntry (StandsUpTo x) front → finding_in (Behind x) (front ++ rest) ≡ finding_in (Behind x) rest
 passed x [] rest h = refl
-passed x (e ∷ es) rest h = ap (λ r. entry_answers r e (seen (Behind x) (es ++ rest))) (answers-not x e h.0) ∙ passed x es rest h.1
+passed x (e ∷ es) rest h = ap (λ r. entry_answers r e (finding_in (Behind x) (es ++ rest))) (answers-not x e h.0) ∙ passed x es rest h.1
 
 -- where none stands behind the place nothing is said over the gap
-pub seen-none : (x : Pos) (es : List Entry) → EachEntry (StandsUpTo x) es → seen (Behind x) es ≡ found no_mark None
+pub seen-none : (x : Pos) (es : List Entry) → EachEntry (StandsUpTo x) es → finding_in (Behind x) es ≡ finding_of no_mark None
 seen-none x [] h = refl
-seen-none x (e ∷ es) h = ap (λ r. entry_answers r e (seen (Behind x) es)) (answers-not x e h.0) ∙ seen-none x es h.1
+seen-none x (e ∷ es) h = ap (λ r. entry_answers r e (finding_in (Behind x) es)) (answers-not x e h.0) ∙ seen-none x es h.1
 
 pub none-clear : (x to : Pos) (es : List Entry) → EachEntry (StandsUpTo x) es → IsClear x to es
 none-clear x to [] h = tt
@@ -66,8 +66,8 @@ has-amid (f ∷ front) e back = inr (has-amid front e back)
 
 module _ (x : Pos) (entries : List Entry) (e : Entry) (h : IsFirstBehind x entries e) where
   -- the next one says what is over the gap
-  pub seen-first : seen (Behind x) entries ≡ found e.gap None
-  seen-first = ap (seen (Behind x)) h.is ∙ passed x h.before (e ∷ h.behind) h.upto ∙ ap (λ r. entry_answers (gap_ordering r) e (seen (Behind x) h.behind)) h.ahead
+  pub seen-first : finding_in (Behind x) entries ≡ finding_of e.gap None
+  seen-first = ap (finding_in (Behind x)) h.is ∙ passed x h.before (e ∷ h.behind) h.upto ∙ ap (λ r. entry_answers (gap_ordering r) e (finding_in (Behind x) h.behind)) h.ahead
 
   pub next-first : IsNextAt x entries (Some e.position)
   next-first = (

@@ -9,7 +9,7 @@ use Rattle.rc_position.specs.Position.{Place}
 use Rattle.rc_writes.specs.Allowed.{ChangeFits}
 use Rattle.rc_mutation.specs.declared.mutations.Mutation.{Mutation}
 use Rattle.rc_mutation.specs.Source.{SameSource, source_at}
-use Rattle.rc_core.specs.Chain.{content, flagged, states_at}
+use Rattle.rc_core.specs.Chain.{content, has_flag, states_at}
 use Rattle.rc_core.specs.Chains.{IsNeeded, Shown, at_place, phase_at, upto}
 use Rattle.rc_core.specs.Continuity.{HoldNoMore, IsContinuous}
 use Rattle.rc_core.specs.declared.entries.ChainKind.TheVariants.{Cache}
@@ -60,7 +60,7 @@ module _ (S : ℕ) (m : Memory) (s : Snap) (writes : List Mutation) (read : Muta
   needed-low j (inr (inl newest)) = let e = newest.1 in omega (arith, e)
   needed-low j (inr (inr under)) = let e = under.1 in omega (arith, e)
 
-  seen-is : (x : Pos) → IsTrue (flagged Cache (states_at (On x) vs)) → content (states_at (On x) vs) ≡ source_at (read ∷ []) x
+  seen-is : (x : Pos) → IsTrue (has_flag Cache (states_at (On x) vs)) → content (states_at (On x) vs) ≡ source_at (read ∷ []) x
   seen-is x t = ⊎_elim
       (λ k. sym (is.known.there x (content (states_at (On x) vs)) (record { known = k; there = refl })))
       (λ off. held.flagged_alone x t off)

@@ -14,7 +14,7 @@ use Rattle.rc_ranges.specs.declared.pieces.Piece.{Piece}
 use Rattle.rc_ranges.specs.Cover.{cover as range_tomb}
 use Rattle.rc_mutation.specs.declared.mutations.Mutation.{Mutation}
 use Rattle.rc_mutation.specs.Source.{rows_in, source_at}
-use Rattle.rc_core.specs.Chain.{IsKnown, content, flag_over, flagged, states_at}
+use Rattle.rc_core.specs.Chain.{IsKnown, content, flag_over, has_flag, states_at}
 use Rattle.rc_core.specs.declared.entries.ChainKind.{ChainKind}
 use Rattle.rc_core.specs.Version.{Behind, On, Version, end_position}
 use Rattle.rc_core.specs.laws.Folding.{content-through, flagged-through}
@@ -65,7 +65,7 @@ module _ (kind : ChainKind) (versions : List Version) (x : Pos) (m : Mutation) (
     abbrev pub AreRestSaid : Bool → Type 0
     AreRestSaid known = IsTrue known → IsTrue (is_rowless_to gap.to (rows_behind x rows)) × (first_tomb_at x pieces ≡ gap.tomb) × IsTrue (is_even_to x gap.to pieces)
 
-    gap-flag : flagged kind (states_at (Behind x) versions) ≡ flag_over kind gap.flag
+    gap-flag : has_flag kind (states_at (Behind x) versions) ≡ flag_over kind gap.flag
     gap-flag = flagged-through kind (states_at (Behind x) versions) ∙ ap (flag_over kind) (sym seen.flag)
 
     gap-tomb : (content (states_at (Behind x) versions)).1 ≡ gap.tomb
@@ -81,7 +81,7 @@ module _ (kind : ChainKind) (versions : List Version) (x : Pos) (m : Mutation) (
     behind-is y a b = behind-alike x gap.to y a b versions seen.reach.clear
 
     module _ (known : Bool) (is : known ≡ flag_over kind gap.flag) where
-      is-known : IsTrue (flagged kind (states_at (Behind x) versions)) → IsTrue known
+      is-known : IsTrue (has_flag kind (states_at (Behind x) versions)) → IsTrue known
       is-known t = is ∙ sym gap-flag ∙ t
 
       -- in the gap the same is said
@@ -96,12 +96,12 @@ module _ (kind : ChainKind) (versions : List Version) (x : Pos) (m : Mutation) (
 
       rest-place : AreRestSaid known → (y : Pos) → IsBefore x y → IsBefore y gap.to → IsPlaceSaid kind versions (m ∷ []) y
       rest-place h y a b = λ v k.
-          let t : IsTrue known = is-known (ap (flagged kind) (sym (on-is y a b)) ∙ k.known.at) in
+          let t : IsTrue known = is-known (ap (has_flag kind) (sym (on-is y a b)) ∙ k.known.at) in
           rest-at h t y a b ∙ sym gap-content ∙ ap content (sym (on-is y a b)) ∙ k.there
 
       rest-gap : AreRestSaid known → (y : Pos) → IsBefore x y → IsBefore y gap.to → IsGapSaid kind versions (m ∷ []) y
       rest-gap h y a b = λ u.
-          let t : IsTrue known = is-known (ap (flagged kind) (sym (behind-is y a b)) ∙ u) in
+          let t : IsTrue known = is-known (ap (has_flag kind) (sym (behind-is y a b)) ∙ u) in
           ap (λ ss. (content ss).1) (behind-is y a b) ∙ gap-tomb ∙ ap (λ (v : There). v.1) (sym (rest-at h t y a b))
 
       -- where both tests hold all is said up to the end of the gap
@@ -112,15 +112,15 @@ module _ (kind : ChainKind) (versions : List Version) (x : Pos) (m : Mutation) (
 
       known-in : IsTrue known → (y : Pos) → IsBefore x y → IsBefore y gap.to → IsKnownAs kind versions y (empty_row, gap.tomb)
       known-in t y a b =
-          let f : IsTrue (flagged kind (states_at (Behind x) versions)) = gap-flag ∙ sym is ∙ t in record {
-            known = record { at = ap (flagged kind) (on-is y a b) ∙ f; gap = λ _. ap (flagged kind) (behind-is y a b) ∙ f };
+          let f : IsTrue (has_flag kind (states_at (Behind x) versions)) = gap-flag ∙ sym is ∙ t in record {
+            known = record { at = ap (has_flag kind) (on-is y a b) ∙ f; gap = λ _. ap (has_flag kind) (behind-is y a b) ∙ f };
             there = ap content (on-is y a b) ∙ gap-content;
           }
 
       -- where all is said the second test holds, too
       pub said-rest : AreSaid kind versions (m ∷ []) x gap.to → AreRestSaid known
       said-rest h = λ t.
-          let f : IsTrue (flagged kind (states_at (Behind x) versions)) = gap-flag ∙ sym is ∙ t in
+          let f : IsTrue (has_flag kind (states_at (Behind x) versions)) = gap-flag ∙ sym is ∙ t in
           let at : (y : Pos) → IsBefore x y → IsBefore y gap.to → (joined_row (rows_in y rows), range_tomb pieces y) ≡ (empty_row, gap.tomb) = λ y a b. sym (onward.left.said y (before-reaches x y a)) ∙ (h y (before-reaches x y a) b).0 (empty_row, gap.tomb) (known-in t y a b) in
           let here : (source_at (m ∷ []) x).1 ≡ gap.tomb = sym ((h x (reaches-itself x) seen.reach.ahead).1 f) ∙ gap-tomb in
           let first : first_tomb_at x pieces ≡ gap.tomb = ap (λ (v : There). v.1) (sym (there x m rows pieces onward)) ∙ here in

@@ -7,7 +7,7 @@ use Rattle.rc_position.specs.declared.positions.Pos.{Pos}
 use Rattle.rc_position.specs.Position.{IsBefore}
 use Rattle.rc_mutation.specs.declared.mutations.Mutation.{Mutation}
 use Rattle.rc_mutation.specs.Source.{source_at}
-use Rattle.rc_core.specs.Chain.{IsBare, IsKnown, content, flagged, states_at}
+use Rattle.rc_core.specs.Chain.{IsBare, IsKnown, content, has_flag, states_at}
 use Rattle.rc_core.specs.declared.entries.ChainKind.{ChainKind}
 use Rattle.rc_core.specs.Version.{Behind, Version, end_position}
 use Rattle.rc_memory.specs.Memory.{Memory}
@@ -22,7 +22,7 @@ IsPlaceSaid kind versions writes x = (v : There) → IsKnownAs kind versions x v
 
 -- where the open gap right behind a position is known, its range tombstone is the one that writes have at the position
 abbrev pub IsGapSaid : ChainKind → List Version → List Mutation → Pos → Type 0
-IsGapSaid kind versions writes x = IsTrue (flagged kind (states_at (Behind x) versions)) → (content (states_at (Behind x) versions)).1 ≡ (source_at writes x).1
+IsGapSaid kind versions writes x = IsTrue (has_flag kind (states_at (Behind x) versions)) → (content (states_at (Behind x) versions)).1 ≡ (source_at writes x).1
 
 -- versions agree with writes: the partition tombstone is theirs; each position that is known says what they say, and the static row where it is known; and each open gap that is known has their range tombstone
 pub record AgreesWith (kind : ChainKind) (versions : List Version) (writes : List Mutation) : Type 0 where

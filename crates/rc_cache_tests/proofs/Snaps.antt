@@ -9,7 +9,7 @@ use Rattle.rc_core.specs.Chains.{at_place}
 use Rattle.rc_core.specs.Continuity.{IsWithin, fill_statics}
 use Rattle.rc_core.specs.declared.entries.ChainKind.TheVariants.{Cache}
 use Rattle.rc_core.specs.declared.entries.Flag.TheVariants.{Unknown}
-use Rattle.rc_core.specs.Steps.{MayPopulate, free_number, on_newest, pin_at, pinned, version_of}
+use Rattle.rc_core.specs.Steps.{MayPopulate, free_number, on_newest, pin_at, pins_with, version_of}
 use Rattle.rc_core.specs.Version.{Version, static_state}
 use Rattle.rc_position.specs.Position.{Head}
 use Rattle.rc_partition.specs.laws.Lists.{elem-here, elem-none}
@@ -20,7 +20,7 @@ use Rattle.rc_memory.specs.laws.At.{number-there}
 use Rattle.rc_memory.specs.laws.Places.{heads, tails}
 use Rattle.rc_memory.specs.laws.Put.{put-at}
 use Rattle.rc_chain.specs.Lives.{IsChainMade, chain_of_new}
-use Rattle.rc_populate.specs.Filling.{IsEntryOpened, OfPinned, chain_opened, given}
+use Rattle.rc_populate.specs.Filling.{IsEntryOpened, OfPinned, chain_opened, filled_statics}
 use Rattle.rc_populate.specs.laws.Opening.{bare-within, fits-filled, given-is, some-and}
 
 -- ---- a chain that came to be
@@ -38,7 +38,7 @@ found-is m id k e a = subst (λ (o : Option KeptChain). IsSomeAnd o (λ k. k.cha
 
 -- ---- a snapshot
 
-pinned-there : (ps : List (Option ℕ)) (v : ℕ) → IsSome (pin_at (pinned v ps) (free_number ps))
+pinned-there : (ps : List (Option ℕ)) (v : ℕ) → IsSome (pin_at (pins_with v ps) (free_number ps))
 pinned-there [] v = refl
 pinned-there (None ∷ ps) v = refl
 pinned-there (Some p ∷ ps) v = pinned-there ps v
@@ -50,7 +50,7 @@ module _ (old new : Memory) (id chain pin phase : ℕ) (k : KeptChain) (e : chai
   pub taken-there : HasPin new chain pin
   taken-there =
       let number : pin ≡ free_number k.chain.pins = subst (λ (o : Option KeptChain). IfSome o (λ q. pin ≡ free_number q.chain.pins)) e taken.number in
-      subst (λ (o : Option KeptChain). IsSomeAnd o (λ q. IsSome (pin_at q.chain.pins pin))) (sym taken-at) (subst (λ n. IsSome (pin_at (pinned (snapshot_number k.chain) k.chain.pins) n)) (sym number) (pinned-there k.chain.pins (snapshot_number k.chain)))
+      subst (λ (o : Option KeptChain). IsSomeAnd o (λ q. IsSome (pin_at q.chain.pins pin))) (sym taken-at) (subst (λ n. IsSome (pin_at (pins_with (snapshot_number k.chain) k.chain.pins) n)) (sym number) (pinned-there k.chain.pins (snapshot_number k.chain)))
 
   pub taken-versions : (vs : List Version) → k.chain.versions ≡ vs → IsSomeAnd (chain_at new chain) (λ k. k.chain.versions ≡ vs)
   taken-versions vs is = subst (λ (o : Option KeptChain). IsSomeAnd o (λ k. k.chain.versions ≡ vs)) (sym taken-at) is
@@ -80,9 +80,9 @@ module _ (m : Memory) (id pin : ℕ) (bare : IsSomeAnd (chain_at m id) (λ k. k.
     pub source-there : OfPinned m id pin (λ k j v. IsWithin (static_state v) (row, None))
     source-there k j v e on at = subst (λ w. IsWithin (static_state w) (row, None)) (sym (one-of k.chain.versions j v (versions-are k e) at)) (bare-within None 7 row is)
 
-    pub fits-there : ChainsFit 4096 m → statics_bytes (given row) ≤ 4096 / 8 → OfPinned m id pin (λ k j v. FitTogether 4096 (on_newest (fill_statics (given row)) k.chain.versions))
-    fits-there fit small k j v e on at = subst (λ vs. FitTogether 4096 (on_newest (fill_statics (given row)) vs)) (sym (versions-are k e))
-        (fits-filled None 7 4096 (given row) (subst (FitTogether 4096) (versions-are k e) (subst (λ (o : Option KeptChain). IfSome o (λ k. FitTogether 4096 k.chain.versions)) e (fit id))) (given-is row is) small)
+    pub fits-there : ChainsFit 4096 m → statics_bytes (filled_statics row) ≤ 4096 / 8 → OfPinned m id pin (λ k j v. FitTogether 4096 (on_newest (fill_statics (filled_statics row)) k.chain.versions))
+    fits-there fit small k j v e on at = subst (λ vs. FitTogether 4096 (on_newest (fill_statics (filled_statics row)) vs)) (sym (versions-are k e))
+        (fits-filled None 7 4096 (filled_statics row) (subst (FitTogether 4096) (versions-are k e) (subst (λ (o : Option KeptChain). IfSome o (λ k. FitTogether 4096 k.chain.versions)) e (fit id))) (given-is row is) small)
 
 pub some-version : (k : KeptChain) (j : ℕ) → MayPopulate (at_place Head k.chain) j → (v : Version) × IsVersionAt k.chain.versions j v
 some-version k j h = number-there k.chain.versions j (let e : suc j ≡ length k.chain.versions = h.newest in omega (arith, e))

@@ -4,7 +4,7 @@ ghost use Rattle.rc_cell.specs.Winner.{empty_row};
 ghost use Rattle.rc_memtable.specs.Writes.{AreSmall};
 ghost use Rattle.rc_writes.specs.Allowed.{ChangeFits};
 ghost use Rattle.rc_schema.specs.SchemaValue.{is_schema};
-ghost use Rattle.rc_stream.specs.Did.{answered, Call.OfNext};
+ghost use Rattle.rc_stream.specs.Did.{Call.OfNext, has_answer};
 ghost use Rattle.rc_filler.specs.Stands.{StandsForWrites};
 ghost use Rattle.rc_cached.specs.Streams.{SayBelow};
 
@@ -110,7 +110,7 @@ fn ask<H, W: Store, F: Frags<H, W>>(
     upto: &Pos,
 ) -> Result<Option<Frag>, StreamErr>
     requires { F.ready stream.old home.old store.old }
-    ensures { F.did stream.old home.old store.old (OfNext upto.now) (answered result) stream.new home.new store.new }
+    ensures { F.did stream.old home.old store.old (OfNext upto.now) (has_answer result) stream.new home.new store.new }
 {
     stream.next(alloc, home, store, upto)
 }

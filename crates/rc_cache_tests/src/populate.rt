@@ -8,7 +8,7 @@ ghost use Rattle.rc_position.specs.Position.{IsBefore};
 ghost use Rattle.rc_rowcode.specs.Objects.{dummy_size};
 ghost use Rattle.rc_rowcode.specs.Spelling.{KeyFits, RowFits};
 ghost use Rattle.rc_version.specs.Versions.{statics_bytes};
-ghost use Rattle.rc_populate.specs.Filling.{given};
+ghost use Rattle.rc_populate.specs.Filling.{filled_statics};
 
 use crate::values::bare;
 use rc_cell::{Row, Tomb};
@@ -56,7 +56,7 @@ fn fill(chains: &mut Chains<4096>, snap: &Snap, row: &Row) -> bool
     requires pin { HasPin chains.old snap.now.chain snap.now.pin }
     requires bare { IsSomeAnd (chain_at chains.old snap.now.chain) (λ k. k.chain.versions ≡ version_of Unknown None 7 ∷ []) }
     requires row { RowFits row.now }
-    requires small { statics_bytes (given row.now) ≤ 512 }
+    requires small { statics_bytes (filled_statics row.now) ≤ 512 }
     requires spare { 512 ≤ spare_of 4096 chains.old.region.usages }
     ensures { HasPin chains.new snap.now.chain snap.now.pin }
 {
@@ -72,7 +72,7 @@ fn fill(chains: &mut Chains<4096>, snap: &Snap, row: &Row) -> bool
 // Whether a new chain, whose static row was filled, shows it. The snapshot is given back.
 fn is_shown(chains: &mut Chains<4096>, row: &Row, marker: Option<i64>) -> Result<bool, AllocError>
     requires row { RowFits row.now }
-    requires small { statics_bytes (given row.now) ≤ 512 }
+    requires small { statics_bytes (filled_statics row.now) ≤ 512 }
     requires spare { 664 ≤ spare_of 4096 chains.old.region.usages }
 {
     let id = chains.new_chain(ChainKind::Cache, 7, None)?;
@@ -194,7 +194,7 @@ fn is_opened(
     marker: Option<i64>,
 ) -> Result<bool, AllocError>
     requires row { RowFits head.now.statics }
-    requires small { statics_bytes (given head.now.statics) ≤ 512 }
+    requires small { statics_bytes (filled_statics head.now.statics) ≤ 512 }
     requires spare { 664 ≤ spare_of 4096 chains.old.region.usages }
 {
     let id = open_entry(chains, 7, head)?;

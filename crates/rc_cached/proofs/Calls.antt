@@ -1,5 +1,5 @@
 -- What the calls of a cached stream's parts do, one after another.
-use Rattle.std.specs.Prelude.{◌≡◌, ⊤, ℕ, zero, suc, Bool, true, false, IsSome, Option, Some, None, is_some, length}
+use Rattle.std.specs.Prelude.{◌≡◌, ℕ, zero, suc, Bool, true, false, IsSome, Option, Some, None, is_some, length}
 use Rattle.std.proofs.Common.{refl, sym, ap, ◌∙◌, subst, inl, inr}
 use Rattle.std.specs.Option.{option_or}
 use Rattle.rc_core.specs.Chains.{IsPinned}
@@ -10,59 +10,20 @@ use Rattle.rc_chain.specs.declared.chains.Snap.{Snap}
 use Rattle.rc_stream.specs.Did.{Call, InTurn, StepsInTurn}
 use Rattle.rc_stream.specs.Stream.{Stream}
 use Rattle.rc_stream.specs.laws.Spent.{chain-keeps}
-use Rattle.rc_populate.specs.Filling.{MayFill}
 use Rattle.rc_cursor.specs.declared.readers.SnapshotReader.{SnapshotReader}
-use Rattle.rc_cursor.specs.Readers.{IsOnlyRead}
-use Rattle.rc_cursor.specs.Snapshots.{IsHeadSeen, IsReadable, Knows, kind_seen, versions_seen}
+use Rattle.rc_cursor.specs.Snapshots.{kind_seen, versions_seen}
 use Rattle.rc_cacheread.specs.Did.{KnownStep, ReaderCall, reader_state}
-use Rattle.rc_cacheread.specs.Sharing.{OfBelow, OfFiller, OfKnown}
 use Rattle.rc_filler.specs.declared.fillers.CacheFiller.{CacheFiller}
-use Rattle.rc_filler.specs.Fillers.{FillerKnows, FillerKnowsStatics, IsFillerReady, losses}
 use Rattle.rc_filler.specs.Fills.{IsCacheFill, IsUsedAsBefore}
-use Rattle.rc_filler.specs.Stands.{StandsForWrites}
 use Rattle.rc_snapshots.specs.laws.Seeing.{snap-then}
-use Rattle.rc_cached.specs.Below.{DidBelow, LiesBelow, MovesBelow, readings_after}
+use Rattle.rc_cached.specs.Below.{readings_after}
 use Rattle.rc_cached.specs.declared.fillers.StreamFiller.{StreamFiller}
 use Rattle.rc_cached.specs.declared.readings.Readings.{Readings}
 use Rattle.rc_cached.specs.declared.underlying.Underlying.{Underlying}
 use Rattle.rc_cached.specs.Fillers.{IsStreamFill}
 use Rattle.rc_cached.specs.Leaving.{LeavesChains}
+use Rattle.rc_cached.specs.Parts.{of_its_filler, of_snapshot, of_underlying}
 use Rattle.rc_cached.specs.Streams.{IsOfCached, OfCache}
-
--- ---- the parts
-
--- a snapshot over the chains
-abbrev pub kn : OfKnown SnapshotReader Memory
-kn = record {
-  ready = λ r m. HasPin m r.snap.chain r.snap.pin × IsReadable m r.snap;
-  place = λ r. r.cursor.last;
-  knows = λ r m. Knows m r.snap;
-  heads = λ r m. IsHeadSeen m r.snap;
-  did = λ r m c ok t n. IsOnlyRead r m t n;
-}
-
--- what fills it
-abbrev pub fi : ℕ → OfFiller StreamFiller Memory
-fi S = record {
-  ready = λ f m. IsFillerReady S f.filler m;
-  fits = λ _ _. ⊤;
-  may = λ f m. MayFill m f.filler.chain f.filler.pin;
-  lost = λ m. losses m;
-  stands = λ f m writes. StandsForWrites S m f.filler.chain f.filler.pin writes;
-  knows = λ f m. FillerKnows m f.filler;
-  knows_statics = λ f m. FillerKnowsStatics m f.filler;
-  fills = λ f m g n. IsStreamFill S f m g n;
-}
-
--- what lies below it
-abbrev pub be : OfBelow Underlying Memory Readings
-be = record {
-  ready = λ _ _ _. ⊤;
-  seen = λ u _ w s. LiesBelow (option_or u.list w.list) s;
-  ahead = λ _ _. ⊤;
-  moves = λ h w g v. MovesBelow h w g v;
-  did = λ u h w _ ok t g v. DidBelow ok u h w t g v;
-}
 
 -- ---- what is left of the chains
 
@@ -168,7 +129,7 @@ module _ (S : ℕ) where
   State = SnapshotReader × Underlying × StreamFiller × Memory × Readings
 
   abbrev Step : Call → Bool → State → State → Type 0
-  Step c ok s t = ReaderCall kn be (fi S) c ok s t
+  Step c ok s t = ReaderCall of_snapshot of_underlying (of_its_filler S) c ok s t
 
   -- what was read
   abbrev pub had : State → Option Stream
@@ -245,8 +206,8 @@ module _ (S : ℕ) where
   answered-all c s t d = answered-many c d.0 s t d.1
 
 -- calls of a snapshot alone leave the chains
-home-one : (ok : Bool) (s t : SnapshotReader × Memory) → KnownStep kn.did ok s t → t.1 ≡ s.1
+home-one : (ok : Bool) (s t : SnapshotReader × Memory) → KnownStep of_snapshot.did ok s t → t.1 ≡ s.1
 home-one ok s t d = d.1.home
 
-pub home-all : (ok : Bool) (s t : SnapshotReader × Memory) → InTurn (KnownStep kn.did) ok s t → t.1 ≡ s.1
-home-all ok s t d = chain-keeps (KnownStep kn.did) (λ s t. t.1 ≡ s.1) (λ s. refl) (λ s t u a b. b ∙ a) home-one ok s t d
+pub home-all : (ok : Bool) (s t : SnapshotReader × Memory) → InTurn (KnownStep of_snapshot.did) ok s t → t.1 ≡ s.1
+home-all ok s t d = chain-keeps (KnownStep of_snapshot.did) (λ s t. t.1 ≡ s.1) (λ s. refl) (λ s t u a b. b ∙ a) home-one ok s t d

@@ -29,8 +29,8 @@ use Rattle.rc_snapshots.specs.Streams.{first_position, from_start}
 use Rattle.rc_cached.specs.declared.readings.Readings.{Readings}
 use Rattle.rc_cached.specs.declared.underlying.Underlying.{Underlying}
 use Rattle.rc_cached.specs.Below.{LiesBelow, MayLieUnread, nothing_read}
+use Rattle.rc_cached.specs.Parts.{of_snapshot}
 use Rattle.rc_cached.specs.Streams.{IsNewCached, IsOfCached, IsReadOf, IsRestOf, OfCache, SayBelow, SaysFrom, StillSays, filler_for, read_below}
-use Rattle.rc_cached.proofs.Calls.{kn}
 use Rattle.rc_cached.proofs.Unread.{first-reaches, fits-whole, marked, may-marked}
 
 pub new-is-of : (s : Snap) (r : OfCache) → IsNewCached s r → IsOfCached s r
@@ -59,8 +59,8 @@ is-made s r is = λ i. record {
   lags = is.lags i;
 }
 
-pub new-place : (s : Snap) (r : OfCache) → IsNewCached s r → IsPlaceAt r.lags (kn.place r.known) (stand r.spot)
-new-place s r is = subst (λ (q : OfCache). IsPlaceAt q.lags (kn.place q.known) (stand q.spot)) (sym (is-made s r is)) (first-reaches first_position)
+pub new-place : (s : Snap) (r : OfCache) → IsNewCached s r → IsPlaceAt r.lags (of_snapshot.place r.known) (stand r.spot)
+new-place s r is = subst (λ (q : OfCache). IsPlaceAt q.lags (of_snapshot.place q.known) (stand q.spot)) (sym (is-made s r is)) (first-reaches first_position)
 
 -- ---- what a mutation's stream says
 

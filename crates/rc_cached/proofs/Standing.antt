@@ -20,8 +20,8 @@ use Rattle.rc_filler.specs.Fillers.{IsFillerReady}
 use Rattle.rc_filler.specs.Stands.{StandsForWrites}
 use Rattle.rc_cached.specs.declared.readings.Readings.{Readings}
 use Rattle.rc_cached.specs.Below.{LiesBelow}
+use Rattle.rc_cached.specs.Parts.{of_its_filler, of_snapshot, of_underlying}
 use Rattle.rc_cached.specs.Streams.{IsOfCached, IsRestOf, OfCache, SaysFrom, StillSays, filler_for, read_below}
-use Rattle.rc_cached.proofs.Calls.{be, fi, kn}
 use Rattle.rc_cached.proofs.Sharing.{KnownLaws, fit-of, pair, shares}
 use Rattle.rc_cached.proofs.Unread.{marked, may-marked, may-say, no-one-thing}
 
@@ -64,15 +64,15 @@ module _ (S : ℕ) (laws : KnownLaws S) (s : Snap) (r : OfCache) (m : Memory) (w
   abbrev q : OfCache
   q = with_snap s r
 
-  reads-q : IsReaderOf kn be (fi S) writes q m w
+  reads-q : IsReaderOf of_snapshot of_underlying (of_its_filler S) writes q m w
   reads-q = record { stands = stands; covered = inr (leads-of writes (read_below r w) r.stage (stand r.spot) r.to r.spot.tomb said.fits said.says) }
 
   -- it is a reader of these writes
-  pub reads-of : IsReaderOf kn be (fi S) writes r m w
-  reads-of = subst (λ p. IsReaderOf kn be (fi S) writes p m w) (sym (is-with s r of)) reads-q
+  pub reads-of : IsReaderOf of_snapshot of_underlying (of_its_filler S) writes r m w
+  reads-of = subst (λ p. IsReaderOf of_snapshot of_underlying (of_its_filler S) writes p m w) (sym (is-with s r of)) reads-q
 
-  pub ready-of : IsFillerReady S (filler_for s).filler m → IsPlaceAt r.lags (kn.place r.known) (stand r.spot) → IsReady kn be (fi S) r m w
-  ready-of ready place = subst (λ p. IsReady kn be (fi S) p m w) (sym (is-with s r of)) (record {
+  pub ready-of : IsFillerReady S (filler_for s).filler m → IsPlaceAt r.lags (of_snapshot.place r.known) (stand r.spot) → IsReady of_snapshot of_underlying (of_its_filler S) r m w
+  ready-of ready place = subst (λ p. IsReady of_snapshot of_underlying (of_its_filler S) p m w) (sym (is-with s r of)) (record {
     fit = fit-of S laws q.known q.below q.filler m w writes (pair S laws q.known) ready stands;
     shares = shares S laws;
     writes = writes;
@@ -81,8 +81,8 @@ module _ (S : ℕ) (laws : KnownLaws S) (s : Snap) (r : OfCache) (m : Memory) (w
     place = place;
   })
 
-  pub sees-of : (t : Stream) → IsRestOf writes r t → Sees kn be (fi S) r m w t
-  sees-of t d = subst (λ p. Sees kn be (fi S) p m w t) (sym (is-with s r of)) (record {
+  pub sees-of : (t : Stream) → IsRestOf writes r t → Sees of_snapshot of_underlying (of_its_filler S) r m w t
+  sees-of t d = subst (λ p. Sees of_snapshot of_underlying (of_its_filler S) p m w t) (sym (is-with s r of)) (record {
     writes = writes;
     reads = reads-q;
     says = record {

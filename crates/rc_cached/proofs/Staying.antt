@@ -22,8 +22,8 @@ use Rattle.rc_filler.specs.Stands.{StandsForWrites}
 use Rattle.rc_cached.specs.declared.fillers.StreamFiller.{StreamFiller}
 use Rattle.rc_cached.specs.declared.readings.Readings.{Readings}
 use Rattle.rc_cached.specs.Below.{LiesBelow}
+use Rattle.rc_cached.specs.Parts.{of_its_filler, of_snapshot, of_underlying}
 use Rattle.rc_cached.specs.Streams.{IsOfCached, IsRestOf, OfCache, SaysFrom, StillKnows, StillSays, filler_for, read_below}
-use Rattle.rc_cached.proofs.Calls.{be, fi, kn}
 use Rattle.rc_cached.proofs.Sharing.{KnownLaws, fit-of, head_seen, is-head-seen, pair, shares}
 use Rattle.rc_cached.proofs.Standing.{is-with, reads-of, sees-of, with_snap}
 use Rattle.rc_cached.proofs.Unread.{fits-whole}
@@ -38,9 +38,9 @@ module _ (S : ℕ) (laws : KnownLaws S) (s : Snap) (r : OfCache) (m : Memory) (w
   abbrev q : OfCache
   q = with_snap s r
 
-  module _ (t : Stream) (d : Sees kn be (fi S) q m w t) where
+  module _ (t : Stream) (d : Sees of_snapshot of_underlying (of_its_filler S) q m w t) where
     abbrev Whole : Type 0
-    Whole = IsAllKnown (kn.knows q.known m) (kn.heads q.known m) (stand q.spot) q.to
+    Whole = IsAllKnown (of_snapshot.knows q.known m) (of_snapshot.heads q.known m) (stand q.spot) q.to
 
     abbrev Rest : Type 0
     Rest = IsSaidBelow (LiesBelow (read_below r w)) q.stage q.to q.spot d.says.rest t.head.statics
@@ -75,8 +75,8 @@ module _ (S : ℕ) (laws : KnownLaws S) (s : Snap) (r : OfCache) (m : Memory) (w
       static_row = static-says;
     }
 
-  pub rest-of : (t : Stream) → Sees kn be (fi S) r m w t → IsRestOf writes r t
-  rest-of t is = rest-q t (subst (λ p. Sees kn be (fi S) p m w t) (is-with s r of) is)
+  pub rest-of : (t : Stream) → Sees of_snapshot of_underlying (of_its_filler S) r m w t → IsRestOf writes r t
+  rest-of t is = rest-q t (subst (λ p. Sees of_snapshot of_underlying (of_its_filler S) p m w t) (is-with s r of) is)
 
 -- ---- over other readings
 
@@ -89,7 +89,7 @@ said-over writes others r w v same said says = record {
 
 module _ (S : ℕ) (laws : KnownLaws S) (s : Snap) (r : OfCache) (m n : Memory) (w v : Readings) (others : List Mutation) (of : IsOfCached s r)
     (still : (writes : List Mutation) → StandsForWrites S m s.chain s.pin writes → StandsForWrites S n s.chain s.pin writes) (said : StillSays others w r) (none : read_below r w ≡ None) (now : read_below r v ≡ None) where
-  unread-q : (t : Stream) → Sees kn be (fi S) (with_snap s r) m w t → Sees kn be (fi S) r n v t
+  unread-q : (t : Stream) → Sees of_snapshot of_underlying (of_its_filler S) (with_snap s r) m w t → Sees of_snapshot of_underlying (of_its_filler S) r n v t
   unread-q t d =
       let o = said-over d.writes others r w v (now ∙ sym none) said (subst (λ o. IfSome o (SaysFrom d.writes (stand r.spot) r.to)) (sym none) tt) in
       sees-of S laws s r n v d.writes of (still d.writes d.reads.stands) o t (record {
@@ -102,8 +102,8 @@ module _ (S : ℕ) (laws : KnownLaws S) (s : Snap) (r : OfCache) (m n : Memory) 
       })
 
   -- over nothing read a stream stands for what it stood for
-  pub unread-seen : (t : Stream) → Sees kn be (fi S) r m w t → Sees kn be (fi S) r n v t
-  unread-seen t is = unread-q t (subst (λ p. Sees kn be (fi S) p m w t) (is-with s r of) is)
+  pub unread-seen : (t : Stream) → Sees of_snapshot of_underlying (of_its_filler S) r m w t → Sees of_snapshot of_underlying (of_its_filler S) r n v t
+  unread-seen t is = unread-q t (subst (λ p. Sees of_snapshot of_underlying (of_its_filler S) p m w t) (is-with s r of) is)
 
 -- ---- what is below still says
 
@@ -124,16 +124,16 @@ module _ (S : ℕ) (laws : KnownLaws S) (s : Snap) (r n : OfCache) (m g : Memory
   abbrev AllKnown : Snap → Type 0
   AllKnown z = IsAllKnown (Knows g z) (IsHeadSeen g z) (stand n.spot) n.to
 
-  pub stands-after : n.filler ≡ filler_for s → StandsForWrites S m s.chain s.pin writes → StillSays writes w r → ReaderDid kn be (fi S) r m w c ok n g v → StandsForWrites S g s.chain s.pin writes
+  pub stands-after : n.filler ≡ filler_for s → StandsForWrites S m s.chain s.pin writes → StillSays writes w r → ReaderDid of_snapshot of_underlying (of_its_filler S) r m w c ok n g v → StandsForWrites S g s.chain s.pin writes
   stands-after filler stands said d = subst (λ (f : StreamFiller). StandsForWrites S g f.filler.chain f.filler.pin writes) filler (d.stays writes (reads-of S laws s r m w writes of stands said)).stands
 
   abbrev Led : Type 0
   Led = Leads writes (LiesBelow (read_below n v)) n.stage (stand n.spot) n.to n.spot.tomb
 
-  abbrev Said : (t : Stream) → Sees kn be (fi S) n g v t → Type 0
+  abbrev Said : (t : Stream) → Sees of_snapshot of_underlying (of_its_filler S) n g v t → Type 0
   Said t x = IsSaidBelow (LiesBelow (read_below n v)) n.stage n.to n.spot x.says.rest t.head.statics
 
-  pub still-says : StandsForWrites S m s.chain s.pin writes → StillSays writes w r → ReaderDid kn be (fi S) r m w c ok n g v → (t : Stream) → Sees kn be (fi S) n g v t → AllKnown s ⊎ StillSays writes v n
+  pub still-says : StandsForWrites S m s.chain s.pin writes → StillSays writes w r → ReaderDid of_snapshot of_underlying (of_its_filler S) r m w c ok n g v → (t : Stream) → Sees of_snapshot of_underlying (of_its_filler S) n g v t → AllKnown s ⊎ StillSays writes v n
   still-says stands said d t x = by_way (d.stays writes (reads-of S laws s r m w writes of stands said)).covered x.says.below where
     by_way : AllKnown n.known.snap ⊎ Led → AllKnown n.known.snap ⊎ Said t x → AllKnown s ⊎ StillSays writes v n
     by_way (inl k) y = inl (subst AllKnown now k)
@@ -150,19 +150,19 @@ module _ (S : ℕ) (laws : KnownLaws S) (s : Snap) (r : OfCache) (m n : Memory) 
   abbrev p : OfCache
   p = with_snap s r
 
-  known-still : IsAllKnown (kn.knows p.known m) (kn.heads p.known m) (stand p.spot) p.to → IsAllKnown (kn.knows p.known n) (kn.heads p.known n) (stand p.spot) p.to
+  known-still : IsAllKnown (of_snapshot.knows p.known m) (of_snapshot.heads p.known m) (stand p.spot) p.to → IsAllKnown (of_snapshot.knows p.known n) (of_snapshot.heads p.known n) (stand p.spot) p.to
   known-still k = record { each = λ y a b. (let x = k.each y a b in (x.0, knows.there y x.0 x.1)); head = knows.static_row k.head }
 
-  reads-still : (writes : List Mutation) → IsReaderOf kn be (fi S) writes p m w → IsReaderOf kn be (fi S) writes p n v
+  reads-still : (writes : List Mutation) → IsReaderOf of_snapshot of_underlying (of_its_filler S) writes p m w → IsReaderOf of_snapshot of_underlying (of_its_filler S) writes p n v
   reads-still writes h = record { stands = still writes h.stands; covered = cover h.covered } where
-    cover : IsAllKnown (kn.knows p.known m) (kn.heads p.known m) (stand p.spot) p.to ⊎ Leads writes (LiesBelow (read_below p w)) p.stage (stand p.spot) p.to p.spot.tomb → IsAllKnown (kn.knows p.known n) (kn.heads p.known n) (stand p.spot) p.to ⊎ Leads writes (LiesBelow (read_below p v)) p.stage (stand p.spot) p.to p.spot.tomb
+    cover : IsAllKnown (of_snapshot.knows p.known m) (of_snapshot.heads p.known m) (stand p.spot) p.to ⊎ Leads writes (LiesBelow (read_below p w)) p.stage (stand p.spot) p.to p.spot.tomb → IsAllKnown (of_snapshot.knows p.known n) (of_snapshot.heads p.known n) (stand p.spot) p.to ⊎ Leads writes (LiesBelow (read_below p v)) p.stage (stand p.spot) p.to p.spot.tomb
     cover (inl k) = inl (known-still k)
     cover (inr l) = inr (subst (λ o. Leads writes (LiesBelow o) p.stage (stand p.spot) p.to p.spot.tomb) (sym same) l)
 
-  pub still-ready : IsFillerReady S (filler_for s).filler n → IsReady kn be (fi S) r m w → IsReady kn be (fi S) r n v
+  pub still-ready : IsFillerReady S (filler_for s).filler n → IsReady of_snapshot of_underlying (of_its_filler S) r m w → IsReady of_snapshot of_underlying (of_its_filler S) r n v
   still-ready ready is =
-      let h = subst (λ o. IsReady kn be (fi S) o m w) (is-with s r of) is in
-      subst (λ o. IsReady kn be (fi S) o n v) (sym (is-with s r of)) (record {
+      let h = subst (λ o. IsReady of_snapshot of_underlying (of_its_filler S) o m w) (is-with s r of) is in
+      subst (λ o. IsReady of_snapshot of_underlying (of_its_filler S) o n v) (sym (is-with s r of)) (record {
         fit = fit-of S laws p.known p.below p.filler n v h.writes (pair S laws p.known) ready (still h.writes h.reads.stands);
         shares = shares S laws;
         writes = h.writes;
@@ -171,7 +171,7 @@ module _ (S : ℕ) (laws : KnownLaws S) (s : Snap) (r : OfCache) (m n : Memory) 
         place = h.place;
       })
 
-  sees-still : (t : Stream) → Sees kn be (fi S) p m w t → Sees kn be (fi S) p n v t
+  sees-still : (t : Stream) → Sees of_snapshot of_underlying (of_its_filler S) p m w t → Sees of_snapshot of_underlying (of_its_filler S) p n v t
   sees-still t d = record {
     writes = d.writes;
     reads = reads-still d.writes d.reads;
@@ -185,9 +185,9 @@ module _ (S : ℕ) (laws : KnownLaws S) (s : Snap) (r : OfCache) (m n : Memory) 
       below = cover d.says.below;
     };
   } where
-    cover : IsAllKnown (kn.knows p.known m) (kn.heads p.known m) (stand p.spot) p.to ⊎ IsSaidBelow (LiesBelow (read_below p w)) p.stage p.to p.spot d.says.rest t.head.statics → IsAllKnown (kn.knows p.known n) (kn.heads p.known n) (stand p.spot) p.to ⊎ IsSaidBelow (LiesBelow (read_below p v)) p.stage p.to p.spot d.says.rest t.head.statics
+    cover : IsAllKnown (of_snapshot.knows p.known m) (of_snapshot.heads p.known m) (stand p.spot) p.to ⊎ IsSaidBelow (LiesBelow (read_below p w)) p.stage p.to p.spot d.says.rest t.head.statics → IsAllKnown (of_snapshot.knows p.known n) (of_snapshot.heads p.known n) (stand p.spot) p.to ⊎ IsSaidBelow (LiesBelow (read_below p v)) p.stage p.to p.spot d.says.rest t.head.statics
     cover (inl k) = inl (known-still k)
     cover (inr l) = inr (subst (λ o. IsSaidBelow (LiesBelow o) p.stage p.to p.spot d.says.rest t.head.statics) (sym same) l)
 
-  pub still-seen : (t : Stream) → Sees kn be (fi S) r m w t → Sees kn be (fi S) r n v t
-  still-seen t is = subst (λ o. Sees kn be (fi S) o n v t) (sym (is-with s r of)) (sees-still t (subst (λ o. Sees kn be (fi S) o m w t) (is-with s r of) is))
+  pub still-seen : (t : Stream) → Sees of_snapshot of_underlying (of_its_filler S) r m w t → Sees of_snapshot of_underlying (of_its_filler S) r n v t
+  still-seen t is = subst (λ o. Sees of_snapshot of_underlying (of_its_filler S) o n v t) (sym (is-with s r of)) (sees-still t (subst (λ o. Sees of_snapshot of_underlying (of_its_filler S) o m w t) (is-with s r of) is))

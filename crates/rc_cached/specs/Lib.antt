@@ -1,6 +1,7 @@
 pub mod Below
 pub mod Fillers
 pub mod Leaving
+pub mod Parts
 pub mod Streams
 pub use Rattle.rc_filler.specs.Fills
 pub use Rattle.rc_filler.specs.Stands

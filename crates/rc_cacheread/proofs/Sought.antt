@@ -9,7 +9,7 @@ use Rattle.rc_mutation.specs.declared.fragments.Frag.{Frag}
 use Rattle.rc_stream.specs.Merging.{same_tomb}
 use Rattle.rc_stream.specs.Places.{Reaches}
 use Rattle.rc_stream.specs.Snapshot.{SayThere}
-use Rattle.rc_stream.specs.Stream.{Stream, force, is_passed, onward, opening, sought}
+use Rattle.rc_stream.specs.Stream.{Stream, force, is_passed, onward, opening, sought_stream}
 use Rattle.rc_cacheread.specs.declared.readers.CacheReader.{CacheReader}
 use Rattle.rc_cacheread.specs.declared.readers.Stage.TheVariants.{Away}
 use Rattle.rc_cacheread.specs.declared.spots.Spot.{Spot}
@@ -61,13 +61,13 @@ passed-all x t (f ∷ fs) rest e =
       never f fs e = absurd (cc)
 
 module _ {K F P H W : Type 0} (kn : OfKnown K H) (be : OfBelow F H W) (fi : OfFiller P H) (r : CacheReader K F P) (t : Spot) (x : Pos) (h : H) (w : W) where
-  pub sees-sought : IsSpotSought x r.spot t → (s : Stream) → Sees kn be fi r h w s → Sees kn be fi (reader_of r.known r.below r.filler r.to t r.stage r.lags) h w (sought x s)
+  pub sees-sought : IsSpotSought x r.spot t → (s : Stream) → Sees kn be fi r h w s → Sees kn be fi (reader_of r.known r.below r.filler r.to t r.stage r.lags) h w (sought_stream x s)
   sees-sought g s d =
       let y = d.says in
       let q = through x (stand r.spot) (tomb_told r.spot) (front r.spot) y.rest g.before y.reads.from in
       let tomb : force x s.tomb s.left ≡ force x (tomb_told r.spot) (front r.spot) = (λ i. force x (y.tomb i) (y.left i)) ∙ q.0 in
       let left : onward x s.left ≡ onward x (front r.spot) ++ y.rest = ap (onward x) y.left ∙ q.1 in
-      sees-at kn be fi r t h w g.from g.tomb s (sought x s) d refl (sym g.told)
+      sees-at kn be fi r t h w g.from g.tomb s (sought_stream x s) d refl (sym g.told)
       ((λ i. opening x (tomb i) ++ left i) ∙ joined (opening x (force x (tomb_told r.spot) (front r.spot))) (onward x (front r.spot)) y.rest ∙ ap (λ l. l ++ y.rest) (sym g.due))
 
   module _ (g : IsBegunAt x r.spot t) where
@@ -105,7 +105,7 @@ module _ {K F P H W : Type 0} (kn : OfKnown K H) (be : OfBelow F H W) (fi : OfFi
       place = reach-through (kn.place r.known) (stand r.spot) (stand t) (at-lags r.lags (kn.place r.known) (stand r.spot) d.place) on-begun;
     }
 
-    pub sees-begun : (s : Stream) → Sees kn be fi r h w s → Sees kn be fi N h w (sought x s)
+    pub sees-begun : (s : Stream) → Sees kn be fi r h w s → Sees kn be fi N h w (sought_stream x s)
     sees-begun s d =
         let o = d.says in
         let q = passed-all x (tomb_told r.spot) (front r.spot) o.rest g.due in

@@ -11,7 +11,7 @@ use Rattle.rc_mutation.specs.declared.fragments.Frag.{Frag}
 use Rattle.rc_mutation.specs.declared.fragments.Frag.TheVariants as frag
 use Rattle.rc_stream.specs.Merging.{IsOrdered}
 use Rattle.rc_stream.specs.Places.{Reaches}
-use Rattle.rc_stream.specs.Stream.{Stream, first_upto, force, is_upto, rest, sought, took}
+use Rattle.rc_stream.specs.Stream.{Stream, first_upto, force, is_upto, rest, sought_stream, took}
 use Rattle.rc_stream.specs.laws.Ordered.{irreflexive, stop}
 use Rattle.rc_stream.specs.laws.Sought.{sought-ordered}
 use Rattle.rc_cacheread.specs.declared.readers.Stage.{Stage}
@@ -46,10 +46,10 @@ fits-sought x Away z tomb now t f = f
 fits-sought x Sought z tomb now t f = (f.0, f.1)
 fits-sought x Within z tomb now t f = (f.0, f.1)
 
-pub sought-fits : (x : Pos) (t : Stream) → IsOrdered t.left → AreRowsApart t.left → Fits Sought x None (sought x t)
+pub sought-fits : (x : Pos) (t : Stream) → IsOrdered t.left → AreRowsApart t.left → Fits Sought x None (sought_stream x t)
 sought-fits x t o a = (sought-ordered x t.tomb t.left o, sought-apart x t.tomb t.left a, sought-from x t.tomb t.left o, refl)
 
-pub sought-says : (x y : Pos) (t : Stream) → Reaches x y → said_at y (sought x t).tomb (sought x t).left ≡ said_at y t.tomb t.left
+pub sought-says : (x y : Pos) (t : Stream) → Reaches x y → said_at y (sought_stream x t).tomb (sought_stream x t).left ≡ said_at y t.tomb t.left
 sought-says x y t h = sought-there x y t.tomb t.left h
 
 -- ---- where nothing was given

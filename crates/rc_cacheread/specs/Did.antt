@@ -36,8 +36,8 @@ abbrev pub reader_state : {K F P H W : Type 0} → CacheReader K F P → H → W
 reader_state r h w = (r.known, r.below, r.filler, h, w)
 
 -- only the snapshot was called
-abbrev pub IsQuiet : {K F P H W : Type 0} → OfKnown K H → Bool → K × F × P × H × W → K × F × P × H × W → Type 0
-IsQuiet kn ok s t = InTurn (KnownStep kn.did) ok (s.0, s.3) (t.0, t.3) × (t.1 ≡ s.1) × (t.2 ≡ s.2) × (t.4 ≡ s.4)
+abbrev pub CallsSnapshotAlone : {K F P H W : Type 0} → OfKnown K H → Bool → K × F × P × H × W → K × F × P × H × W → Type 0
+CallsSnapshotAlone kn ok s t = InTurn (KnownStep kn.did) ok (s.0, s.3) (t.0, t.3) × (t.1 ≡ s.1) × (t.2 ≡ s.2) × (t.4 ≡ s.4)
 
 -- what a call passes is known: the static row; or, of the slice, each position from the place on and up to y, but for those inside a row
 abbrev pub IsKnownFor : Call → (Pos → There → Type 0) → (HeadAt → Type 0) → (x to : Pos) → Type 0
@@ -64,7 +64,7 @@ pub record ReaderFilled {K P H : Type 0} (kn : OfKnown K H) (fi : OfFiller P H) 
 pub record ReaderDid {K F P H W : Type 0} (kn : OfKnown K H) (be : OfBelow F H W) (fi : OfFiller P H) (r : CacheReader K F P) (h : H) (w : W) (c : Call) (ok : Bool) (n : CacheReader K F P) (g : H) (v : W) : Type 0 where
   pub calls : InTurn (ReaderCall kn be fi c) ok (reader_state r h w) (reader_state n g v)
   pub on : Reaches (stand r.spot) (stand n.spot)
-  pub quiet : IsKnownFor c (kn.knows r.known h) (kn.heads r.known h) (stand r.spot) r.to → IsQuiet kn ok (reader_state r h w) (reader_state n g v) × IsKnownFor c (kn.knows n.known g) (kn.heads n.known g) (stand n.spot) n.to
+  pub quiet : IsKnownFor c (kn.knows r.known h) (kn.heads r.known h) (stand r.spot) r.to → CallsSnapshotAlone kn ok (reader_state r h w) (reader_state n g v) × IsKnownFor c (kn.knows n.known g) (kn.heads n.known g) (stand n.spot) n.to
   pub filled : ReaderFilled kn fi r.known r.filler h n.known n.filler g (IsFilledFor c ok (kn.knows n.known g) (kn.heads n.known g) (stand r.spot) (stand n.spot))
   pub stays : StaysReader kn be fi r h w n g v
 

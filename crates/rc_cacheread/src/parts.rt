@@ -5,12 +5,12 @@ ghost use Rattle.rc_outside.specs.Files.{HoldsSameFiles};
 ghost use Rattle.rc_position.specs.declared.positions.Pos.{Pos};
 ghost use Rattle.rc_position.specs.Position.{IsBefore};
 ghost use Rattle.rc_stream.specs.Causes.{Caused};
-ghost use Rattle.rc_stream.specs.Did.{InTurn, ReachesEnd, answered, Call.OfNext};
+ghost use Rattle.rc_stream.specs.Did.{InTurn, ReachesEnd, has_answer, Call.OfNext};
 ghost use Rattle.rc_stream.specs.Places.{Reaches};
 ghost use Rattle.rc_stream.specs.Showing.{Blames};
 ghost use Rattle.rc_stream.specs.Snapshot.{IsPartFrom, SameKnown, There, place_behind};
 ghost use Rattle.rc_stream.specs.Stream.{Stream};
-ghost use Rattle.rc_cacheread.specs.Did.{IsQuiet, KnownStep, ReaderCall, ReaderFilled, reader_state};
+ghost use Rattle.rc_cacheread.specs.Did.{CallsSnapshotAlone, KnownStep, ReaderCall, ReaderFilled, reader_state};
 ghost use Rattle.rc_cacheread.specs.calls.Did.{IsReaderStepUpto, ReaderStepSays};
 ghost use Rattle.rc_cacheread.specs.Passing.{IsKnownOver};
 ghost use Rattle.rc_cacheread.specs.calls.Passing.{PassesWhole};
@@ -94,8 +94,8 @@ pub(crate) fn read_part<H, W: Store, K: Known<H>, F: Frags<H, W>, P: Filler<H>>(
     requires within { IsBefore reader.old.spot.place reader.old.to }
     ensures says { (s : Stream) → Sees (of_known K.ready K.place K.knows K.heads K.did) (of_below F.ready F.seen F.ahead F.moves F.did) (of_filler P.ready P.fits P.may P.lost P.stands P.knows P.knows_statics P.fills) reader.old home.old store.old s → ReaderStepSays result upto.now s (Sees (of_known K.ready K.place K.knows K.heads K.did) (of_below F.ready F.seen F.ahead F.moves F.did) (of_filler P.ready P.fits P.may P.lost P.stands P.knows P.knows_statics P.fills) reader.new home.new store.new) }
     ensures upto { IfOk result (IsReaderStepUpto upto.now) }
-    ensures did { (y : Pos) → ReachesEnd (Sees (of_known K.ready K.place K.knows K.heads K.did) (of_below F.ready F.seen F.ahead F.moves F.did) (of_filler P.ready P.fits P.may P.lost P.stands P.knows P.knows_statics P.fills) reader.old home.old store.old) upto.now y → InTurn (ReaderCall (of_known K.ready K.place K.knows K.heads K.did) (of_below F.ready F.seen F.ahead F.moves F.did) (of_filler P.ready P.fits P.may P.lost P.stands P.knows P.knows_statics P.fills) (OfNext y)) (answered result) (reader_state reader.old home.old store.old) (reader_state reader.new home.new store.new) }
-    ensures quiet { (v : There) → K.knows reader.old.known home.old reader.old.spot.place v → IsQuiet (of_known K.ready K.place K.knows K.heads K.did) (answered result) (reader_state reader.old home.old store.old) (reader_state reader.new home.new store.new) }
+    ensures did { (y : Pos) → ReachesEnd (Sees (of_known K.ready K.place K.knows K.heads K.did) (of_below F.ready F.seen F.ahead F.moves F.did) (of_filler P.ready P.fits P.may P.lost P.stands P.knows P.knows_statics P.fills) reader.old home.old store.old) upto.now y → InTurn (ReaderCall (of_known K.ready K.place K.knows K.heads K.did) (of_below F.ready F.seen F.ahead F.moves F.did) (of_filler P.ready P.fits P.may P.lost P.stands P.knows P.knows_statics P.fills) (OfNext y)) (has_answer result) (reader_state reader.old home.old store.old) (reader_state reader.new home.new store.new) }
+    ensures quiet { (v : There) → K.knows reader.old.known home.old reader.old.spot.place v → CallsSnapshotAlone (of_known K.ready K.place K.knows K.heads K.did) (has_answer result) (reader_state reader.old home.old store.old) (reader_state reader.new home.new store.new) }
     ensures keeps { (v : There) → K.knows reader.old.known home.old reader.old.spot.place v → SameKnown (K.knows reader.old.known home.old) (K.knows reader.new.known home.new) }
     ensures whole { (v : There) → K.knows reader.old.known home.old reader.old.spot.place v → PassesWhole (K.knows reader.old.known home.old) (stand reader.old.spot) (stand reader.new.spot) }
     ensures on { Reaches (stand reader.old.spot) (stand reader.new.spot) }

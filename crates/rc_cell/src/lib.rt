@@ -8,6 +8,6 @@ mod values;
 mod writes;
 
 pub use columns::Cells;
-pub use rows::Row;
+pub use rows::{Row, greater_of};
 pub use values::Value;
-pub use writes::{Cell, Tomb};
+pub use writes::{Cell, Tomb, is_above};

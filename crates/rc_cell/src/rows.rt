@@ -97,8 +97,8 @@ fn marker_surviving(tomb: Option<Tomb>, marker: Option<i64>) -> Option<i64>
     }
 }
 
-// The greater of two values, where there are any.
-fn greater_of<T: Ord + Copy>(ours: Option<T>, theirs: Option<T>) -> Option<T>
+/// The greater of two values, where there are any.
+pub fn greater_of<T: Ord + Copy>(ours: Option<T>, theirs: Option<T>) -> Option<T>
     ensures { result ≡ greater T.cmp ours theirs }
 {
     match (ours, theirs) {

@@ -56,8 +56,8 @@ impl Ord for Tomb {
     }
 }
 
-// Whether a write of this timestamp survives the tombstone, as every write does where there is none.
-pub(crate) fn is_above(tomb: Option<Tomb>, ts: i64) -> bool
+/// Whether a write of this timestamp survives the tombstone, as every write does where there is none.
+pub fn is_above(tomb: Option<Tomb>, ts: i64) -> bool
     ensures { result ≡ survives tomb ts }
 {
     match tomb {

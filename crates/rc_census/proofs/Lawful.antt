@@ -5,7 +5,7 @@ use Rattle.rc_cell.specs.declared.rows.Row.{Row}
 use Rattle.rc_core.specs.declared.entries.ChainKind.TheVariants.{Memtable}
 use Rattle.rc_core.specs.declared.entries.Entry.{Entry}
 use Rattle.rc_core.specs.Version.{EndsWithDummy, IsVersion, Version}
-use Rattle.rc_registry.specs.Registry.{put}
+use Rattle.rc_registry.specs.Registry.{put_at_number}
 use Rattle.rc_memory.specs.Memory.{KeptChain, Memory, chain_at}
 use Rattle.rc_chain.specs.Lives.{IsEndAlone, is_cache}
 use Rattle.rc_census.specs.Census.{census_of, census_raised, chain_dummies, chain_rows, dummy_count, is_in_cache, row_count}
@@ -38,7 +38,7 @@ off-detached k e = ap (λ b. is_cache k.chain.kind && b) e ∙ never (is_cache k
     never false = refl
 
 -- where what adds nothing gives way to what adds nothing the census stays
-pub put-nothing : (chains : List (Option KeptChain)) (id : ℕ) (c : Option KeptChain) → AddsNothing (slice_index_or chains id None) → AddsNothing c → census_in (put id c chains) ≡ census_in chains
+pub put-nothing : (chains : List (Option KeptChain)) (id : ℕ) (c : Option KeptChain) → AddsNothing (slice_index_or chains id None) → AddsNothing c → census_in (put_at_number id c chains) ≡ census_in chains
 put-nothing chains id c was is = put-census chains id c (census_in chains) 0 0 0
     (omega (arith, was.partitions, is.partitions)) (omega (arith, was.rows, is.rows)) (omega (arith, was.dummies, is.dummies)) (omega arith) (omega arith) (omega arith)
 
@@ -62,21 +62,21 @@ pub on-adds : (k : KeptChain) → is_in_cache k ≡ true → AddsOwn k
 on-adds k e = record { partitions = ap (λ b. cond b 1 0) e; rows = ap (λ b. cond b (chain_rows k) 0) e; dummies = ap (λ b. cond b (chain_dummies k) 0) e }
 
 -- where nothing stood it comes in
-pub put-own : (chains : List (Option KeptChain)) (id : ℕ) (k : KeptChain) → slice_index_or chains id None ≡ None → is_in_cache k ≡ true → census_in (put id (Some k) chains) ≡ census_raised 1 (chain_rows k) (chain_dummies k) (census_in chains)
+pub put-own : (chains : List (Option KeptChain)) (id : ℕ) (k : KeptChain) → slice_index_or chains id None ≡ None → is_in_cache k ≡ true → census_in (put_at_number id (Some k) chains) ≡ census_raised 1 (chain_rows k) (chain_dummies k) (census_in chains)
 put-own chains id k vacant counts = let was = none-adds (slice_index_or chains id None) vacant in let own = on-adds k counts in
     put-census chains id (Some k) (census_raised 1 (chain_rows k) (chain_dummies k) (census_in chains)) 1 (chain_rows k) (chain_dummies k)
     (omega (arith, was.partitions, own.partitions)) (omega (arith, was.rows, own.rows)) (omega (arith, was.dummies, own.dummies)) refl refl refl
 
 -- where what adds nothing takes its place it goes out
-pub take-own : (chains : List (Option KeptChain)) (id : ℕ) (k : KeptChain) (c : Option KeptChain) → slice_index_or chains id None ≡ Some k → is_in_cache k ≡ true → AddsNothing c → census_raised 1 (chain_rows k) (chain_dummies k) (census_in (put id c chains)) ≡ census_in chains
+pub take-own : (chains : List (Option KeptChain)) (id : ℕ) (k : KeptChain) (c : Option KeptChain) → slice_index_or chains id None ≡ Some k → is_in_cache k ≡ true → AddsNothing c → census_raised 1 (chain_rows k) (chain_dummies k) (census_in (put_at_number id c chains)) ≡ census_in chains
 take-own chains id k c there counts nothing = let own = on-adds k counts in
     let p : added_by partitions_added (slice_index_or chains id None) ≡ partitions_added k = ap (added_by partitions_added) there in
     let r : added_by rows_added (slice_index_or chains id None) ≡ rows_added k = ap (added_by rows_added) there in
     let d : added_by dummies_added (slice_index_or chains id None) ≡ dummies_added k = ap (added_by dummies_added) there in
-    census-is chains (census_raised 1 (chain_rows k) (chain_dummies k) (census_in (put id c chains)))
-    (omega (arith, p, own.partitions, nothing.partitions, partitions-told (put id c chains), sum-put partitions_added id c chains))
-    (omega (arith, r, own.rows, nothing.rows, rows-told (put id c chains), sum-put rows_added id c chains))
-    (omega (arith, d, own.dummies, nothing.dummies, dummies-told (put id c chains), sum-put dummies_added id c chains))
+    census-is chains (census_raised 1 (chain_rows k) (chain_dummies k) (census_in (put_at_number id c chains)))
+    (omega (arith, p, own.partitions, nothing.partitions, partitions-told (put_at_number id c chains), sum-put partitions_added id c chains))
+    (omega (arith, r, own.rows, nothing.rows, rows-told (put_at_number id c chains), sum-put rows_added id c chains))
+    (omega (arith, d, own.dummies, nothing.dummies, dummies-told (put_at_number id c chains), sum-put dummies_added id c chains))
 
 -- ---- the end dummy alone
 

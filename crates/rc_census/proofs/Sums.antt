@@ -2,7 +2,7 @@
 use Rattle.std.proofs.Common.{◌≡◌, ◌≤◌, ◌+◌, ℕ, zero, suc, Bool, true, false, List, [], ◌∷◌, Option, Some, None, refl, sym, ap, ◌∙◌, slice_index_or, cond, sum_by, arith}
 use Rattle.std.specs.Prelude.{filter}
 use Rattle.std.proofs.lemmas.List.Sums.{sum_by-cons}
-use Rattle.rc_registry.specs.Registry.{put}
+use Rattle.rc_registry.specs.Registry.{put_at_number}
 use Rattle.rc_memory.specs.Kept.{present}
 
 -- what stands at a number adds
@@ -51,11 +51,11 @@ module _ {X : Type 0} where
   sum-alike f (o ∷ xs) (q ∷ ys) h = omega (arith, sum-front f o xs, sum-front f q ys, h 0, sum-alike f xs ys (λ n. h (suc n)))
 
   -- what stands at a number gives way to another thing
-  pub sum-put : (f : X → ℕ) (n : ℕ) (c : Option X) (xs : List (Option X)) → sum_by f (present (put n c xs)) + added_by f (slice_index_or xs n None) ≡ sum_by f (present xs) + added_by f c
+  pub sum-put : (f : X → ℕ) (n : ℕ) (c : Option X) (xs : List (Option X)) → sum_by f (present (put_at_number n c xs)) + added_by f (slice_index_or xs n None) ≡ sum_by f (present xs) + added_by f c
   sum-put f zero c [] = omega (arith, sum-front f c [])
   sum-put f zero c (o ∷ xs) = omega (arith, sum-front f c xs, sum-front f o xs)
-  sum-put f (suc n) c [] = omega (arith, sum-front f None (put n c []), sum-put f n c [])
-  sum-put f (suc n) c (o ∷ xs) = omega (arith, sum-front f o (put n c xs), sum-front f o xs, sum-put f n c xs)
+  sum-put f (suc n) c [] = omega (arith, sum-front f None (put_at_number n c []), sum-put f n c [])
+  sum-put f (suc n) c (o ∷ xs) = omega (arith, sum-front f o (put_at_number n c xs), sum-front f o xs, sum-put f n c xs)
 
   -- two things are the same where a test lets one of them through
   pub through-alike : (p : X → Bool) (f : X → ℕ) (o q : Option X) → ((x : X) → p x ≡ true → o ≡ Some x → q ≡ Some x) → ((x : X) → p x ≡ true → q ≡ Some x → o ≡ Some x) → added_by (through p f) o ≡ added_by (through p f) q

@@ -6,7 +6,7 @@ use Rattle.std.proofs.lemmas.List.Sums.{count_by-le-length, length-filter, sum_b
 use Rattle.rc_core.specs.declared.entries.Entry.{Entry}
 use Rattle.rc_core.specs.Version.{Version}
 use Rattle.rc_partition.specs.Partitions.{version_objects}
-use Rattle.rc_registry.specs.Registry.{put}
+use Rattle.rc_registry.specs.Registry.{put_at_number}
 use Rattle.rc_memory.specs.Kept.{present}
 use Rattle.rc_memory.specs.Memory.{KeptChain, on_chain}
 use Rattle.rc_memory.specs.Room.{chain_objects}
@@ -54,8 +54,8 @@ same-census old new h = census-is old (census_in new)
 pub put-census : (chains : List (Option KeptChain)) (id : ℕ) (c : Option KeptChain) (now : Census) (partitions rows dummies : ℕ)
     → added_by partitions_added c ≡ added_by partitions_added (slice_index_or chains id None) + partitions → added_by rows_added c ≡ added_by rows_added (slice_index_or chains id None) + rows
     → added_by dummies_added c ≡ added_by dummies_added (slice_index_or chains id None) + dummies
-    → now.partitions ≡ (census_in chains).partitions + partitions → now.rows ≡ (census_in chains).rows + rows → now.dummies ≡ (census_in chains).dummies + dummies → census_in (put id c chains) ≡ now
-put-census chains id c now partitions rows dummies p r d np nr nd = sym (census-is (put id c chains) now
+    → now.partitions ≡ (census_in chains).partitions + partitions → now.rows ≡ (census_in chains).rows + rows → now.dummies ≡ (census_in chains).dummies + dummies → census_in (put_at_number id c chains) ≡ now
+put-census chains id c now partitions rows dummies p r d np nr nd = sym (census-is (put_at_number id c chains) now
     (omega (arith, np, p, partitions-told chains, sum-put partitions_added id c chains))
     (omega (arith, nr, r, rows-told chains, sum-put rows_added id c chains))
     (omega (arith, nd, d, dummies-told chains, sum-put dummies_added id c chains)))

@@ -3,7 +3,7 @@ ghost use Rattle.std.specs.Prelude.{◌≡◌, ◌∷◌, [], ℕ, true, false, 
 ghost use Rattle.rc_cell.specs.declared.writes.Tomb.{Tomb};
 ghost use Rattle.rc_core.specs.declared.entries.ChainKind.TheVariants.{Cache, Memtable};
 ghost use Rattle.rc_core.specs.Version.{IsVersion, Version};
-ghost use Rattle.rc_registry.specs.Registry.{put};
+ghost use Rattle.rc_registry.specs.Registry.{put_at_number};
 ghost use Rattle.rc_memory.specs.Memory.{IsSnapshotTaken, IsUntouched, KeptChain, Member, Memory, chain_at, on_chain, on_shown, shown_detached, with_chains, without_snapshot};
 ghost use Rattle.rc_chain.specs.Lives.{IsChainChanged, IsChainDropped, IsChainMade, IsEndAlone};
 ghost use Rattle.rc_census.specs.Census.{census_of, census_raised, chain_dummies, chain_rows, is_in_cache};
@@ -17,14 +17,14 @@ pub fn readers_and_moves_leave_the_census()
 
 /// The census tells of the chains of the cache that are found by their keys, and of no other: it stays where these do. Chains of memtables do not count, nor those that are no longer found by their keys.
 pub fn other_chains_do_not_count()
-    ensures memtable { (id : ℕ) (k : KeptChain) (m : Memory) → chain_at m id ≡ None → k.chain.kind ≡ Memtable → census_of (with_chains (put id (Some k) m.chains) m) ≡ census_of m }
-    ensures detached { (id : ℕ) (k : KeptChain) (m : Memory) → chain_at m id ≡ None → k.chain.attached ≡ false → census_of (with_chains (put id (Some k) m.chains) m) ≡ census_of m }
+    ensures memtable { (id : ℕ) (k : KeptChain) (m : Memory) → chain_at m id ≡ None → k.chain.kind ≡ Memtable → census_of (with_chains (put_at_number id (Some k) m.chains) m) ≡ census_of m }
+    ensures detached { (id : ℕ) (k : KeptChain) (m : Memory) → chain_at m id ≡ None → k.chain.attached ≡ false → census_of (with_chains (put_at_number id (Some k) m.chains) m) ≡ census_of m }
     ensures beside { (old new : Memory) → ((id : ℕ) (k : KeptChain) → is_in_cache k ≡ true → chain_at old id ≡ Some k → chain_at new id ≡ Some k) → ((id : ℕ) (k : KeptChain) → is_in_cache k ≡ true → chain_at new id ≡ Some k → chain_at old id ≡ Some k) → census_of new ≡ census_of old }
 {}
 
 /// A chain of the cache of one version of its end dummy alone, as each one is made, counts as one partition, no row and one dummy.
 pub fn a_new_chain_counts_one_dummy()
-    ensures alone { (id : ℕ) (k : KeptChain) (v : Version) (m : Memory) → chain_at m id ≡ None → is_in_cache k ≡ true → k.chain.versions ≡ v ∷ [] → IsVersion v → IsEndAlone v → census_of (with_chains (put id (Some k) m.chains) m) ≡ census_raised 1 0 1 (census_of m) }
+    ensures alone { (id : ℕ) (k : KeptChain) (v : Version) (m : Memory) → chain_at m id ≡ None → is_in_cache k ≡ true → k.chain.versions ≡ v ∷ [] → IsVersion v → IsEndAlone v → census_of (with_chains (put_at_number id (Some k) m.chains) m) ≡ census_raised 1 0 1 (census_of m) }
     ensures made { (id : ℕ) (pt : Option Tomb) (phase : ℕ) (list : List Member) (old new : Memory) → IsChainMade id Cache pt phase list old new → census_of new ≡ census_raised 1 0 1 (census_of old) }
     ensures memtable { (id : ℕ) (pt : Option Tomb) (phase : ℕ) (list : List Member) (old new : Memory) → IsChainMade id Memtable pt phase list old new → census_of new ≡ census_of old }
 {}

@@ -19,7 +19,7 @@ use Rattle.rc_registry.specs.Registry.{Registry, use_at}
 use Rattle.rc_memory.specs.declared.counts.Counts.{Counts}
 use Rattle.rc_memory.specs.Memory.{KeptChain, Memory, IsVersionAt, IsVersionObject, chain_at}
 use Rattle.rc_memory.specs.Kept.{HoldMemory}
-use Rattle.rc_memory.specs.Changes.{NothingListed, member}
+use Rattle.rc_memory.specs.Changes.{NothingListed, member_at}
 use Rattle.rc_memory.specs.laws.Listed.{unlisted-at}
 use Rattle.rc_memory.specs.laws.Places.{same_some, version-there}
 use Rattle.rc_chain.specs.Lives.{IsEndAlone}
@@ -90,7 +90,7 @@ module _ (slots : Slots) (v : View) (registry : Registry) (counts : Counts) (m :
         object = a.4;
         entries = one.1;
         statics = ap (λ (x : Version). x.statics) (sym c) ∙ k.2.2.statics;
-        unlisted = unlisted-at slots v registry counts m h one.0 (member id j (Some k.2.2.alone.0.position))
+        unlisted = unlisted-at slots v registry counts m h one.0 (member_at id j (Some k.2.2.alone.0.position))
             (record { partition = a.0; version = a.1; chain = a.2; number = a.3; object = (subst (λ l. Contains l one.0) (sym one.1) (elem-here [] [] one.0), holds-stands v one.0 k.2.2.alone.0 one.2) }) (free (Some k.2.2.alone.0.position));
         stands = subst (λ vs. AreStanding slots v (st.front ++ (partition_of u.root vs ∷ st.back)) h.listed) number.split st.stands;
       }

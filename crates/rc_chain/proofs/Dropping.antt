@@ -14,7 +14,7 @@ use Rattle.rc_core.specs.Version.{EndsWithDummy, Version, IsVersion, end_positio
 use Rattle.rc_memory.specs.Lists.{elem-here}
 use Rattle.rc_memory.specs.Memory.{KeptChain, Member, Memory, HasChain, HasVersion, IsVersionAt, chain_at, listed_as, on_chain, on_shown, renumbered_member, shown_detached, shown_without, with_chains}
 use Rattle.rc_memory.specs.Recency.{HasObject, IsRecency, MayBeListed, MustBeListed}
-use Rattle.rc_memory.specs.Changes.{IsUnmoved, IsWithout, Nowhere, NothingListed, OfVersion, StandStill, member}
+use Rattle.rc_memory.specs.Changes.{IsUnmoved, IsWithout, Nowhere, NothingListed, OfVersion, StandStill, member_at}
 use Rattle.rc_memory.specs.laws.Listed.{one-at}
 use Rattle.rc_memory.specs.laws.Places.{no_some, same_some}
 use Rattle.rc_memory.specs.laws.Put.{put-at}
@@ -46,16 +46,16 @@ pub end-free : (m : Memory) (id j : ℕ) → IsSomeAnd (chain_at m id) (λ k. Mu
 end-free m id j must = let k = some-chain (chain_at m id) (λ k. MustBeListed k.chain j (Some end_position)) must in k.2.inner refl
 
 module _ (m : Memory) (id j : ℕ) (rule : IsRecency m) (versions : (i l : ℕ) → OfVersion m i l (λ k v. IsVersion v)) (bare : IsSomeAnd (chain_at m id) (λ k. (v : Version) × IsVersionAt k.chain.versions j v × IsEndAlone v))
-    (list : List Member) (without : IsWithout (member id j (Some end_position)) m.recency list) where
+    (list : List Member) (without : IsWithout (member_at id j (Some end_position)) m.recency list) where
   -- nothing else of the version was listed
-  pub none-listed : (at : Option Pos) → Contains list (member id j at) → ⊥
+  pub none-listed : (at : Option Pos) → Contains list (member_at id j at) → ⊥
   none-listed at on =
       let k = some-chain (chain_at m id) (λ k. (v : Version) × IsVersionAt k.chain.versions j v × IsEndAlone v) bare in
-      let may = some-chain (chain_at m id) (λ q. MayBeListed q.chain j at) (rule.members (member id j at) (without-old (member id j (Some end_position)) m.recency list without (member id j at) on)) in
+      let may = some-chain (chain_at m id) (λ q. MayBeListed q.chain j at) (rule.members (member_at id j at) (without-old (member_at id j (Some end_position)) m.recency list without (member_at id j at) on)) in
       let same : k.0 ≡ may.0 = same_some k.0 may.0 (sym k.1 ∙ may.1) in
       let v : may.2.version ≡ k.2.0 = one-at k.0.chain.versions j may.2.version k.2.0 (subst (λ (x : KeptChain). IsVersionAt x.chain.versions j may.2.version) (sym same) may.2.number) k.2.1 in
       let place = bare-place k.2.0 at (versions id j k.0 k.2.0 k.1 k.2.1) k.2.2 (subst (λ x. HasObject x at) v may.2.object) in
-      without-off (member id j (Some end_position)) m.recency list without rule.once (subst (λ x. Contains list (member id j x)) place on)
+      without-off (member_at id j (Some end_position)) m.recency list without rule.once (subst (λ x. Contains list (member_at id j x)) place on)
 
   module _ (one : Memory) (taken : one ≡ listed_as list one.region m) (objects : SameObjects m.region one.region) (still : StandStill Nowhere m one) where
     pub bare-one : IsSomeAnd (chain_at one id) (λ k. (v : Version) × IsVersionAt k.chain.versions j v × IsEndAlone v)
@@ -74,9 +74,9 @@ module _ (m : Memory) (id j : ℕ) (rule : IsRecency m) (versions : (i l : ℕ) 
       objects = λ r w at ne. h.objects r w (still.objects r w (λ none. none) at) ne;
       region = unmoved-then m.region one.region two.region (unmoved-objects m.region one.region objects) h.region;
     } where
-      same_list : (l : List Member) → IsWithout (member id j (Some end_position)) one.recency l → l ≡ one.recency
+      same_list : (l : List Member) → IsWithout (member_at id j (Some end_position)) one.recency l → l ≡ one.recency
       same_list l (inl off) = off.1
-      same_list l (inr on) = absurd (nothing-one (Some end_position) (subst (λ xs. Contains xs (member id j (Some end_position))) (sym on.2) (elem-here on.0 on.1 (member id j (Some end_position)))))
+      same_list l (inr on) = absurd (nothing-one (Some end_position) (subst (λ xs. Contains xs (member_at id j (Some end_position))) (sym on.2) (elem-here on.0 on.1 (member_at id j (Some end_position)))))
 
 -- ---- a chain made
 
@@ -87,8 +87,8 @@ module _ (m one : Memory) (id : ℕ) (kind : ChainKind) (pt : Option Tomb) (phas
   pub made-version : HasVersion one id 0
   made-version = subst (λ (o : Option KeptChain). IsSomeAnd o (λ q. 0 < length q.chain.versions)) (sym at_made) (omega arith)
 
-  pub made-off : IsRecency m → Contains one.recency (member id 0 (Some end_position)) → ⊥
-  made-off rule on = let may = some-chain (chain_at m id) (λ q. MayBeListed q.chain 0 (Some end_position)) (rule.members (member id 0 (Some end_position)) (subst (λ l. Contains l (member id 0 (Some end_position))) made.recency on)) in
+  pub made-off : IsRecency m → Contains one.recency (member_at id 0 (Some end_position)) → ⊥
+  made-off rule on = let may = some-chain (chain_at m id) (λ q. MayBeListed q.chain 0 (Some end_position)) (rule.members (member_at id 0 (Some end_position)) (subst (λ l. Contains l (member_at id 0 (Some end_position))) made.recency on)) in
       no_some may.0 (sym made.vacant ∙ may.1)
 
   pub made-may : kind ≡ Cache → IsSomeAnd (chain_at one id) (λ q. MayBeListed q.chain 0 (Some end_position))
@@ -100,12 +100,12 @@ module _ (m one : Memory) (id : ℕ) (kind : ChainKind) (pt : Option Tomb) (phas
     settled = λ under. absurd (let clash : false ≡ true = under.0 in cc);
   })
 
-  pub made-whole : kind ≡ Cache → (two : Memory) → two ≡ listed_as (one.recency ++ (member id 0 (Some end_position) ∷ [])) two.region one → SameObjects one.region two.region → StandStill Nowhere one two → IsChainMade id kind pt phase (with_end_listed kind id 0 m.recency) m two
+  pub made-whole : kind ≡ Cache → (two : Memory) → two ≡ listed_as (one.recency ++ (member_at id 0 (Some end_position) ∷ [])) two.region one → SameObjects one.region two.region → StandStill Nowhere one two → IsChainMade id kind pt phase (with_end_listed kind id 0 m.recency) m two
   made-whole cached two listed objects still = record {
     vacant = made.vacant;
     told = made.told;
     chains = ap (λ (x : Memory). x.chains) listed ∙ made.chains;
-    recency = ap (λ (x : Memory). x.recency) listed ∙ ap (λ l. l ++ (member id 0 (Some end_position) ∷ [])) made.recency ∙ ap (λ k. with_end_listed k id 0 m.recency) (sym cached);
+    recency = ap (λ (x : Memory). x.recency) listed ∙ ap (λ l. l ++ (member_at id 0 (Some end_position) ∷ [])) made.recency ∙ ap (λ k. with_end_listed k id 0 m.recency) (sym cached);
     dropped = ap (λ (x : Memory). x.dropped) listed ∙ made.dropped;
     counts = ap (λ (x : Memory). x.counts) listed ∙ made.counts;
     still = still-then Nowhere m one two made.still still;
@@ -145,8 +145,8 @@ module _ (m one : Memory) (id : ℕ) (k : KeptChain) (e : chain_at m id ≡ Some
 
 module _ (m : Memory) (id j : ℕ) (rule : IsRecency m) (versions : (i l : ℕ) → OfVersion m i l (λ k v. IsVersion v)) where
   -- an object beside the end dummy is listed, where no update stands in a cache chain
-  pub more-listed : (k : KeptChain) (v : Version) (at : Option Pos) → chain_at m id ≡ Some k → IsVersionAt k.chain.versions j v → k.chain.kind ≡ Cache → k.chain.updating ≡ false → HasObject v at → (at ≡ Some end_position → ⊥) → Contains m.recency (member id j at)
-  more-listed k v at e number cached settled has inner = rule.complete (member id j at) (subst (λ (o : Option KeptChain). IsSomeAnd o (λ q. MustBeListed q.chain j at)) (sym e) (record {
+  pub more-listed : (k : KeptChain) (v : Version) (at : Option Pos) → chain_at m id ≡ Some k → IsVersionAt k.chain.versions j v → k.chain.kind ≡ Cache → k.chain.updating ≡ false → HasObject v at → (at ≡ Some end_position → ⊥) → Contains m.recency (member_at id j at)
+  more-listed k v at e number cached settled has inner = rule.complete (member_at id j at) (subst (λ (o : Option KeptChain). IsSomeAnd o (λ q. MustBeListed q.chain j at)) (sym e) (record {
     cached = cached;
     version = v;
     number = number;
@@ -156,10 +156,10 @@ module _ (m : Memory) (id j : ℕ) (rule : IsRecency m) (versions : (i l : ℕ) 
   }))
 
   -- of a version of its end dummy alone that is not listed nothing is
-  pub none-of-bare : OfVersion m id j (λ k v. IsEndAlone v) → (Contains m.recency (member id j (Some end_position)) → ⊥) → NothingListed id j m
+  pub none-of-bare : OfVersion m id j (λ k v. IsEndAlone v) → (Contains m.recency (member_at id j (Some end_position)) → ⊥) → NothingListed id j m
   none-of-bare bare off at on =
-      let may = some-chain (chain_at m id) (λ q. MayBeListed q.chain j at) (rule.members (member id j at) on) in
-      off (subst (λ x. Contains m.recency (member id j x)) (bare-place may.2.version at (versions id j may.0 may.2.version may.1 may.2.number) (bare may.0 may.2.version may.1 may.2.number) may.2.object) on)
+      let may = some-chain (chain_at m id) (λ q. MayBeListed q.chain j at) (rule.members (member_at id j at) on) in
+      off (subst (λ x. Contains m.recency (member_at id j x)) (bare-place may.2.version at (versions id j may.0 may.2.version may.1 may.2.number) (bare may.0 may.2.version may.1 may.2.number) may.2.object) on)
 
 pub cached-has : (m : Memory) (id j : ℕ) → IsSomeAnd (chain_at m id) (λ k. (k.chain.kind ≡ Cache) × (k.chain.updating ≡ false) × (j < length k.chain.versions)) → HasVersion m id j
 cached-has m id j h = of (chain_at m id) h

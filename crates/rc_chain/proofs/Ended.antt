@@ -10,11 +10,11 @@ use Rattle.rc_core.specs.AtPlace.{HasEntryAt}
 use Rattle.rc_core.specs.declared.entries.Entry.{Entry}
 use Rattle.rc_core.specs.Version.{Ascend, EndsWithDummy, Version, IsVersion, end_position}
 use Rattle.rc_core.specs.laws.Placed.{not_end}
-use Rattle.rc_registry.specs.Registry.{put}
+use Rattle.rc_registry.specs.Registry.{put_at_number}
 use Rattle.rc_memory.specs.Memory.{KeptChain, Member, Memory, HasChain, HasVersion, IsVersionAt, chain_at, listed_as, on_chain, on_shown, shown_updating, with_chains}
 use Rattle.rc_memory.specs.Recency.{HasObject, IsLastInner, IsRecency, IsUnderUpdate, MayBeListed}
 use Rattle.rc_memory.specs.Kept.{IsSoundChain}
-use Rattle.rc_memory.specs.Changes.{IsUnmoved, LastIsListed, Nowhere, OfVersion, StandStill, member}
+use Rattle.rc_memory.specs.Changes.{IsUnmoved, LastIsListed, Nowhere, OfVersion, StandStill, member_at}
 use Rattle.rc_memory.specs.laws.At.{number-there}
 use Rattle.rc_memory.specs.laws.Listed.{one-at}
 use Rattle.rc_memory.specs.laws.Places.{heads, same_some, tails}
@@ -126,20 +126,20 @@ on-at cs id f k e = put-at cs id (option_map f (slice_index_or cs id None)) ∙ 
 
 -- nothing is done to a chain by what leaves it as it is
 pub on-itself : (cs : List (Option KeptChain)) (id : ℕ) (f : KeptChain → KeptChain) (k : KeptChain) → slice_index_or cs id None ≡ Some k → f k ≡ k → cs ≡ on_chain id f cs
-on-itself cs id f k e same = sym (ap (λ o. put id (option_map f o) cs) e ∙ ap (λ x. put id (Some x) cs) same ∙ put-same cs id k e)
+on-itself cs id f k e same = sym (ap (λ o. put_at_number id (option_map f o) cs) e ∙ ap (λ x. put_at_number id (Some x) cs) same ∙ put-same cs id k e)
 
 abbrev pub ended : KeptChain → KeptChain
 ended = on_shown (shown_updating false)
 
 module _ (m : Memory) (id j : ℕ) (k : KeptChain) (e : chain_at m id ≡ Some k) (u : k.chain.updating ≡ true) (newest : suc j ≡ length k.chain.versions) (sound : IsSoundChain k.chain) (versions : (i l : ℕ) → OfVersion m i l (λ k v. IsVersion v)) where
   abbrev end_place : Member
-  end_place = member id j (Some end_position)
+  end_place = member_at id j (Some end_position)
 
   pub newest-one : (v : Version) × IsVersionAt k.chain.versions j v
   newest-one = number-there k.chain.versions j (omega (arith, newest))
 
   module _ (one : Memory) (listed : OfVersion m id j (λ q v. (last : Option Member) × IsLastUnlisted id j v m.recency last × (one ≡ listed_as (m.recency ++ option_to_list last) one.region m)))
-      (there : OfVersion m id j (λ q v. (at : Option Pos) → IsLastInner v at → Contains one.recency (member id j at))) where
+      (there : OfVersion m id j (λ q v. (at : Option Pos) → IsLastInner v at → Contains one.recency (member_at id j at))) where
     pub told : (last : Option Member) × IsLastUnlisted id j newest-one.0 m.recency last × (one ≡ listed_as (m.recency ++ option_to_list last) one.region m)
     told = listed k newest-one.0 e newest-one.1
 
@@ -156,7 +156,7 @@ module _ (m : Memory) (id j : ℕ) (k : KeptChain) (e : chain_at m id ≡ Some k
     last-listed q i v at e' under number last =
         let same : k ≡ q = same_some k q (sym at_one ∙ e') in let n : suc i ≡ length k.chain.versions = under.1 ∙ ap (λ (x : KeptChain). length x.chain.versions) (sym same) in
         let is : j ≡ i = omega (arith, n, newest) in
-        subst (λ l. Contains one.recency (member id l at)) is (there k v e (subst (λ l. IsVersionAt k.chain.versions l v) (sym is) (subst (λ (x : KeptChain). IsVersionAt x.chain.versions i v) (sym same) number)) at last)
+        subst (λ l. Contains one.recency (member_at id l at)) is (there k v e (subst (λ l. IsVersionAt k.chain.versions l v) (sym is) (subst (λ (x : KeptChain). IsVersionAt x.chain.versions i v) (sym same) number)) at last)
 
     module _ (rule : IsRecency one) (two : Memory) (settled : two ≡ with_chains (on_chain id ended one.chains) one) where
       at_two : chain_at two id ≡ Some (ended k)
@@ -201,7 +201,7 @@ module _ (m : Memory) (id j : ℕ) (k : KeptChain) (e : chain_at m id ≡ Some k
           settled = λ s. absurd (true-false k.chain.updating u s);
           updated = λ u' i v n number.
               let is : j ≡ i = omega (arith, n, newest) in let one_version : newest-one.0 ≡ v = one-at k.chain.versions j newest-one.0 v newest-one.1 (subst (λ l. IsVersionAt k.chain.versions l v) (sym is) number) in
-              (told.0, subst (λ l. IsLastUnlisted id l v m.recency told.0) is (subst (λ x. IsLastUnlisted id j x m.recency told.0) one_version told.1), ap (λ l. (m.recency ++ option_to_list told.0) ++ (member id l (Some end_position) ∷ [])) is);
+              (told.0, subst (λ l. IsLastUnlisted id l v m.recency told.0) is (subst (λ x. IsLastUnlisted id j x m.recency told.0) one_version told.1), ap (λ l. (m.recency ++ option_to_list told.0) ++ (member_at id l (Some end_position) ∷ [])) is);
         }
 
 -- where no update stood all is as it was

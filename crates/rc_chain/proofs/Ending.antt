@@ -22,7 +22,7 @@ use Rattle.rc_memory.specs.Lists.{elem-here, elem-split}
 use Rattle.rc_registry.specs.Registry.{Registry}
 use Rattle.rc_memory.specs.declared.counts.Counts.{Counts}
 use Rattle.rc_memory.specs.Memory.{KeptChain, Member, Memory, HasVersion, IsMemberObject, IsVersionAt, IsVersionObject, chain_at}
-use Rattle.rc_memory.specs.Changes.{OfVersion, member}
+use Rattle.rc_memory.specs.Changes.{OfVersion, member_at}
 use Rattle.rc_memory.specs.laws.At.{found-version}
 use Rattle.rc_memory.specs.laws.Listed.{one-at}
 use Rattle.rc_memory.specs.laws.Places.{same_some}
@@ -137,7 +137,7 @@ module _ (slots : Slots) (v : View) (registry : Registry) (counts : Counts) (m :
   held-whole = let a = held-version in ((standing-as slots v registry counts m id j a.0 a.1 n a.2).entries, a.1, stands slots v registry counts m id j a.0 a.1 n a.2)
 
   -- the end dummy at its place
-  pub end-member : (r : Ref) → ((refs : List Ref) (c : Version) → IsVersionOf v n refs c → (front : List Ref) × (refs ≡ front ++ (r ∷ [])) × IsEntryAtPosition v r end_position) → IsMemberObject m r (member id j (Some end_position))
+  pub end-member : (r : Ref) → ((refs : List Ref) (c : Version) → IsVersionOf v n refs c → (front : List Ref) × (refs ≡ front ++ (r ∷ [])) × IsEntryAtPosition v r end_position) → IsMemberObject m r (member_at id j (Some end_position))
   unfolding held-whole
   end-member r told =
       let a = held-version in let w = held-whole in let e = told w.0 w.1 w.2 in
@@ -145,7 +145,7 @@ module _ (slots : Slots) (v : View) (registry : Registry) (counts : Counts) (m :
 
   -- the last entry before it
   pub inner-some : (r q : Ref) → ((refs : List Ref) (c : Version) → IsVersionOf v n refs c → (front : List Ref) × (refs ≡ front ++ (r ∷ [])) × IsEntryAtPosition v r end_position)
-      → ((front back : List Ref) (c : Version) → IsVersionOf v n (front ++ (r ∷ back)) c → last_entry front ≡ Some q) → (x : Pos) × IsMemberObject m q (member id j (Some x)) × OfVersion m id j (λ k c. IsLastInner c (Some x))
+      → ((front back : List Ref) (c : Version) → IsVersionOf v n (front ++ (r ∷ back)) c → last_entry front ≡ Some q) → (x : Pos) × IsMemberObject m q (member_at id j (Some x)) × OfVersion m id j (λ k c. IsLastInner c (Some x))
   unfolding held-whole
   inner-some r q told before =
       let a = held-version in let w = held-whole in let e = told w.0 w.1 w.2 in
@@ -190,7 +190,7 @@ module _ (slots : Slots) (v : View) (registry : Registry) (counts : Counts) (m :
 
   pub inner-either : (r : Ref) → ((refs : List Ref) (c : Version) → IsVersionOf v n refs c → (front : List Ref) × (refs ≡ front ++ (r ∷ [])) × IsEntryAtPosition v r end_position) → (o : Option Ref)
       → ((front back : List Ref) (c : Version) → IsVersionOf v n (front ++ (r ∷ back)) c → last_entry front ≡ o)
-      → IfSome o (λ q. (x : Pos) × IsMemberObject m q (member id j (Some x)) × OfVersion m id j (λ k c. IsLastInner c (Some x))) × IfNone o (OfVersion m id j (λ k c. (at : Option Pos) → IsLastInner c at → ⊥))
+      → IfSome o (λ q. (x : Pos) × IsMemberObject m q (member_at id j (Some x)) × OfVersion m id j (λ k c. IsLastInner c (Some x))) × IfNone o (OfVersion m id j (λ k c. (at : Option Pos) → IsLastInner c at → ⊥))
   inner-either r told None before = (tt, inner-none r told before)
   inner-either r told (Some q) before = (inner-some r q told before, tt)
 

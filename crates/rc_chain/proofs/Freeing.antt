@@ -23,11 +23,11 @@ use Rattle.rc_core.specs.Version.{Ascend, EndsWithDummy, Version, IsVersion, end
 use Rattle.rc_core.specs.laws.Placed.{ahead_of, not_end}
 use Rattle.rc_core.specs.laws.Spots.{ascend-tail, turn_to}
 use Rattle.rc_memory.specs.Lists.{elem-cases, elem-none}
-use Rattle.rc_registry.specs.Registry.{AreFree, put}
+use Rattle.rc_registry.specs.Registry.{AreFree, put_at_number}
 use Rattle.rc_memory.specs.Memory.{KeptChain, Member, Memory, HasVersion, IsVersionAt, chain_at, listed_as, on_shown, on_version_of, shown_with}
 use Rattle.rc_memory.specs.Recency.{IsLastInner}
 use Rattle.rc_memory.specs.Kept.{IsSoundChain}
-use Rattle.rc_memory.specs.Changes.{CanDrop, IsVersionChanged, IsWithout, Nowhere, OfVersion, StandStill, member}
+use Rattle.rc_memory.specs.Changes.{CanDrop, IsVersionChanged, IsWithout, Nowhere, OfVersion, StandStill, member_at}
 use Rattle.rc_memory.specs.laws.At.{found-version, number-low}
 use Rattle.rc_memory.specs.laws.Listed.{one-at}
 use Rattle.rc_memory.specs.laws.Places.{same_some}
@@ -107,7 +107,7 @@ module _ (f g h : Version → Version) where
 
   pub changed-joined : (id j : ℕ) (these : Member → Type 0) (m n o : Memory) → IsVersionChanged id j f these m n → IsVersionChanged id j g Nowhere n o → OfVersion m id j (λ k v. g (f v) ≡ h v) → IsVersionChanged id j h these m o
   changed-joined id j these m n o a b same = record {
-    chains = b.chains ∙ ap (λ cs. put id (option_map (on_shown (on_version_of j g)) (slice_index_or cs id None)) cs) a.chains ∙ on-twice m.chains id (on_shown (on_version_of j f)) (on_shown (on_version_of j g))
+    chains = b.chains ∙ ap (λ cs. put_at_number id (option_map (on_shown (on_version_of j g)) (slice_index_or cs id None)) cs) a.chains ∙ on-twice m.chains id (on_shown (on_version_of j f)) (on_shown (on_version_of j g))
         ∙ on-alike m.chains id (λ k. on_shown (on_version_of j g) (on_shown (on_version_of j f) k)) (on_shown (on_version_of j h)) (λ k e. ap (λ vs. on_shown (shown_with vs) k) (on-joined j k.chain.versions (λ v at. same k v e at)));
     dropped = b.dropped ∙ a.dropped;
     counts = b.counts ∙ a.counts;
@@ -198,13 +198,13 @@ module _ (m : Memory) (id : ℕ) (bare : IsSomeAnd (chain_at m id) (λ k. (v : V
       pub last-free : (k : KeptChain) (j : ℕ) → chain_at one id ≡ Some k → IsPinned k.chain.pins j → ⊥
       last-free k j e on = (free k (ap (λ (x : Memory). chain_at x id) (sym taken) ∙ e)).1 j on
 
-      module _ (without : IsWithout (member id 0 (Some end_position)) m.recency list) (objects : SameObjects m.region one.region) (still : StandStill Nowhere m one) where
+      module _ (without : IsWithout (member_at id 0 (Some end_position)) m.recency list) (objects : SameObjects m.region one.region) (still : StandStill Nowhere m one) where
         pub last-dropped : (two : Memory) → IsChainDropped id one.recency one two → IsLastDropped id m two
         last-dropped two d = record {
           list = list;
           recency = without;
           dropped = record {
-            chains = d.chains ∙ ap (λ (x : Memory). put id None x.chains) taken;
+            chains = d.chains ∙ ap (λ (x : Memory). put_at_number id None x.chains) taken;
             recency = d.recency ∙ ap (λ (x : Memory). x.recency) taken;
             dropped = d.dropped ∙ ap (λ (x : Memory). x.dropped ++ (id ∷ [])) taken;
             counts = d.counts ∙ ap (λ (x : Memory). x.counts) taken;

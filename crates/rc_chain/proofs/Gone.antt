@@ -7,14 +7,14 @@ use Rattle.lsa_region.specs.declared.end.End.TheVariants.{Obj}
 use Rattle.lsa_region.specs.declared.end.Root.{Root}
 use Rattle.lsa_region.specs.Region.{View, link_of, IsRootDropped, SameButRoots}
 use Rattle.lsa_list.specs.declared.recency.List.{List as Slots}
-use Rattle.rc_core.specs.Steps.{renumbered}
+use Rattle.rc_core.specs.Steps.{number_after_removal}
 use Rattle.rc_core.specs.Version.{Version, end_position}
 use Rattle.rc_version.specs.Versions.{IsMarked, IsVersionOf}
 use Rattle.rc_version.specs.laws.Marked.{marked-same, marked-then}
 use Rattle.rc_memory.specs.Partitions.{PartitionEntry, StandingVersion}
 use Rattle.rc_registry.specs.Registry.{Registry}
 use Rattle.rc_memory.specs.declared.counts.Counts.{Counts}
-use Rattle.rc_memory.specs.Memory.{Member, Memory, IsVersionAt, closed, fewer_versions, partition_without, renumbered_member}
+use Rattle.rc_memory.specs.Memory.{Member, Memory, IsVersionAt, without_chain, fewer_versions, partition_without, renumbered_member}
 use Rattle.rc_memory.specs.Kept.{HoldMemory}
 use Rattle.rc_memory.specs.Changes.{IsUnmoved, NothingListed}
 use Rattle.rc_memory.specs.laws.Places.{same_some, version-place}
@@ -32,16 +32,16 @@ module _ (slots : Slots) (old new : View) (registry later : Registry) (counts : 
   fewer : PartitionEntry
   fewer = partition_without j p
 
-  still-numbered : (l : ℕ) (t : StandingVersion) → IsVersionAt p.versions l t → l ≢ j → IsVersionAt (partition_without j p).versions (renumbered j l) t
-  still-numbered l t a ne = subst (λ xs. IsVersionAt xs (renumbered j l) t) (sym (ap (λ xs. take j xs ++ drop (suc j) xs) number.split ∙ all-but-is number.older s number.newer j number.number))
-      (subst (λ n. IsVersionAt (number.older ++ number.newer) n t) (λ i. renumbered (number.number i) (a.number i))
+  still-numbered : (l : ℕ) (t : StandingVersion) → IsVersionAt p.versions l t → l ≢ j → IsVersionAt (partition_without j p).versions (number_after_removal j l) t
+  still-numbered l t a ne = subst (λ xs. IsVersionAt xs (number_after_removal j l) t) (sym (ap (λ xs. take j xs ++ drop (suc j) xs) number.split ∙ all-but-is number.older s number.newer j number.number))
+      (subst (λ n. IsVersionAt (number.older ++ number.newer) n t) (λ i. number_after_removal (number.number i) (a.number i))
       (without-at number.older number.newer s t a.older a.newer (sym number.split ∙ a.split) (λ e. ne (sym a.number ∙ e ∙ number.number))))
 
-  at-chain : (w : Member) → w.chain ≡ id → (renumbered_member id j w).version ≡ renumbered j w.version
-  at-chain w e = ap (λ b. cond b (renumbered j w.version) w.version) (eq-eqb w.chain id e)
+  at-chain : (w : Member) → w.chain ≡ id → (renumbered_member id j w).version ≡ number_after_removal j w.version
+  at-chain w e = ap (λ b. cond b (number_after_removal j w.version) w.version) (eq-eqb w.chain id e)
 
   beside-chain : (w : Member) → w.chain ≢ id → (renumbered_member id j w).version ≡ w.version
-  beside-chain w ne = ap (λ b. cond b (renumbered j w.version) w.version) (ne_eqb w.chain id ne)
+  beside-chain w ne = ap (λ b. cond b (number_after_removal j w.version) w.version) (ne_eqb w.chain id ne)
 
   fewer-stands : (w : Member) (t : StandingVersion) → IsStandingAt m w.chain w.version t → (w.chain ≡ id → w.version ≡ j → ⊥) → IsStandingAt (fewer_versions id j new m) w.chain (renumbered_member id j w).version t
   fewer-stands w t a ne = elim (decided w.chain id) [
@@ -76,13 +76,13 @@ module _ (slots : Slots) (old mid new : View) (registry later : Registry) (count
     (there : slice_index_or m.standing id None ≡ Some p) (number : IsVersionAt p.versions 0 s) (root : Root) (gone : IsRootDropped mid new root) (same : SameButRoots mid new)
     (statics : (q : Ref) (refs : List Ref) (d : Version) → q ≢ s.object → IsVersionOf old q refs d → link_of mid (Obj q 3) ≡ link_of old (Obj q 3))
     (budget : length mid.usages ≡ length old.usages) (moved : mid.moved ≡ old.moved) (compacted : mid.compacted ≡ old.compacted) (epoch : IsMarked old mid) where
-  pub chain-dropped-is : HoldMemory slots new later counts (closed id new m) → IsChainDropped id m.recency m (closed id new m)
+  pub chain-dropped-is : HoldMemory slots new later counts (without_chain id new m) → IsChainDropped id m.recency m (without_chain id new m)
   chain-dropped-is k = record {
     chains = refl;
     recency = refl;
     dropped = refl;
     counts = refl;
-    objects = λ r w at ne. object-stands slots old new registry later counts counts m (closed id new m) h k r w w at refl
+    objects = λ r w at ne. object-stands slots old new registry later counts counts m (without_chain id new m) h k r w w at refl
         (λ t a. record { partition = a.partition; chain = put-beside m.standing id None w.chain ne ∙ a.chain; number = a.number })
         (λ q refs d t a is stood. gone.links (Obj q 3) ∙ statics q refs d (λ e. other-object slots old new registry later counts m h id 0 p s there number w.chain w.version t a (λ on l. ne on) (is ∙ e)) stood);
     region = subst (λ v. IsUnmoved v new) (sym h.region) (record {

@@ -10,13 +10,13 @@ use Rattle.rc_registry.specs.Registry.{Registry}
 use Rattle.rc_memory.specs.declared.counts.Counts.{Counts}
 use Rattle.rc_memory.specs.Kept.{HoldMemory}
 use Rattle.rc_memory.specs.Memory.{KeptChain, Member, Memory, IsMemberObject, IsVersionAt, chain_at}
-use Rattle.rc_memory.specs.Changes.{member}
+use Rattle.rc_memory.specs.Changes.{member_at}
 use Rattle.rc_recency.specs.laws.Held.{version-of-member}
 use Rattle.rc_recency.specs.laws.Placed.{placed-entry, placed-static}
 use Rattle.rc_chain.specs.Held.{HoldsPlaced, IsHeldAt}
 
 module _ (slots : Slots) (v : View) (registry : Registry) (counts : Counts) (m : Memory) (h : HoldMemory slots v registry counts m) (id j : ℕ) where
-  holds : (at : Option Pos) (r : Ref) → IsMemberObject m r (member id j at) → (k : KeptChain) × (c : Version) × (chain_at m id ≡ Some k) × IsVersionAt k.chain.versions j c × HoldsPlaced v r at c
+  holds : (at : Option Pos) (r : Ref) → IsMemberObject m r (member_at id j at) → (k : KeptChain) × (c : Version) × (chain_at m id ≡ Some k) × IsVersionAt k.chain.versions j c × HoldsPlaced v r at c
   holds None r here = let o = version-of-member slots v registry counts m h id j None r here in
       (o.0, here.version.version, o.1.chain, o.1.number, placed-static slots v registry counts m id j o.0 here.version.version here.version.object o.1 r here)
   holds (Some x) r here = let o = version-of-member slots v registry counts m h id j (Some x) r here in

@@ -7,16 +7,16 @@ use Rattle.lsa_store.specs.declared.place.Ref.{Ref}
 use Rattle.lsa_region.specs.Region.{View}
 use Rattle.lsa_list.specs.declared.recency.List.{List as Slots}
 use Rattle.rc_core.specs.Chains.{IsPinned}
-use Rattle.rc_core.specs.Steps.{all_but, renumbered}
+use Rattle.rc_core.specs.Steps.{all_but, number_after_removal}
 use Rattle.rc_core.specs.Version.{Version, IsVersion, end_position}
 use Rattle.rc_cell.specs.declared.rows.Row.{Row}
 use Rattle.rc_registry.specs.declared.uses.Use.{Use}
-use Rattle.rc_registry.specs.Registry.{Registry, AreFree, put, use_at}
+use Rattle.rc_registry.specs.Registry.{Registry, AreFree, put_at_number, use_at}
 use Rattle.rc_memory.specs.declared.counts.Counts.{Counts}
 use Rattle.rc_memory.specs.Memory.{KeptChain, Member, Memory, IsMemberObject, IsVersionAt, chain_at, on_chain, on_shown, renumbered_member, shown_without}
 use Rattle.rc_memory.specs.Recency.{IsRecency, MayBeListed}
 use Rattle.rc_memory.specs.Kept.{HoldMemory, IsSoundChain}
-use Rattle.rc_memory.specs.Changes.{CanDrop, IsUnmoved, NothingListed, OfVersion, member}
+use Rattle.rc_memory.specs.Changes.{CanDrop, IsUnmoved, NothingListed, OfVersion, member_at}
 use Rattle.rc_memory.specs.laws.At.{number-low}
 use Rattle.rc_memory.specs.laws.Dropped.{renumbered-other}
 use Rattle.rc_memory.specs.laws.Places.{same_some}
@@ -46,9 +46,9 @@ below-or (suc j) zero h = absurd (omega (arith, h))
 below-or (suc j) (suc n) h = elim (below-or j n (omega (arith, h))) [ inl low ↦ inl (omega (arith, low)) | inr same ↦ inr (ap suc same) ]
 
 -- nothing is listed of a chain of which nothing is listed in its versions
-pub all-unlisted : (m : Memory) (id : ℕ) (k : KeptChain) → chain_at m id ≡ Some k → IsRecency m → ((j : ℕ) → j < length k.chain.versions → NothingListed id j m) → (j : ℕ) (at : Option Pos) → Contains m.recency (member id j at) → ⊥
+pub all-unlisted : (m : Memory) (id : ℕ) (k : KeptChain) → chain_at m id ≡ Some k → IsRecency m → ((j : ℕ) → j < length k.chain.versions → NothingListed id j m) → (j : ℕ) (at : Option Pos) → Contains m.recency (member_at id j at) → ⊥
 all-unlisted m id k e rule none j at on =
-    let may = some-chain (chain_at m id) (λ q. MayBeListed q.chain j at) (rule.members (member id j at) on) in
+    let may = some-chain (chain_at m id) (λ q. MayBeListed q.chain j at) (rule.members (member_at id j at) on) in
     none j (number-low k.chain.versions j may.2.version (subst (λ (x : KeptChain). IsVersionAt x.chain.versions j may.2.version) (same_some may.0 k (sym may.1 ∙ e)) may.2.number)) at on
 
 -- ---- a chain of which nothing is listed goes
@@ -60,8 +60,8 @@ pub record IsDroppingIdle (id : ℕ) (old now : Memory) : Type 0 where
   pub free : AreFree chain.chain.pins
   pub some : 0 < length chain.chain.versions
   pub bare : (j : ℕ) (v : Version) → IsVersionAt chain.chain.versions j v → IsEndAlone v
-  pub unlisted : (j : ℕ) (at : Option Pos) → Contains now.recency (member id j at) → ⊥
-  pub chains : now.chains ≡ put id (Some chain) old.chains
+  pub unlisted : (j : ℕ) (at : Option Pos) → Contains now.recency (member_at id j at) → ⊥
+  pub chains : now.chains ≡ put_at_number id (Some chain) old.chains
   pub recency : now.recency ≡ old.recency
   pub dropped : now.dropped ≡ old.dropped
   pub counts : now.counts ≡ old.counts
@@ -94,7 +94,7 @@ idle-start m id some rule sound versions = let k = some-chain (chain_at m id) (�
   region = unmoved-itself m.region;
 }
 
-free-renumbered : (ps : List (Option ℕ)) → AreFree ps → AreFree (map (option_map (renumbered 0)) ps)
+free-renumbered : (ps : List (Option ℕ)) → AreFree ps → AreFree (map (option_map (number_after_removal 0)) ps)
 free-renumbered [] free j on = absurd on
 free-renumbered (None ∷ ps) free j (inl e) = cc e
 free-renumbered (Some p ∷ ps) free j (inl e) = free p (inl refl)
@@ -140,7 +140,7 @@ module _ (id : ℕ) (old now : Memory) (h : IsDroppingIdle id old now) where
     beside w on e = h.unlisted w.version w.position (subst (Contains now.recency) (λ i. record { chain = e i; version = w.version; position = w.position }) on)
 
     kept_list : d.recency.0 ≡ now.recency
-    kept_list = elim d.recency.1 [ inl off ↦ off.1 | inr on ↦ absurd (h.unlisted 0 (Some end_position) (subst (λ l. Contains l (member id 0 (Some end_position))) (sym on.2) (elem-here on.0 on.1 (member id 0 (Some end_position))))) ]
+    kept_list = elim d.recency.1 [ inl off ↦ off.1 | inr on ↦ absurd (h.unlisted 0 (Some end_position) (subst (λ l. Contains l (member_at id 0 (Some end_position))) (sym on.2) (elem-here on.0 on.1 (member_at id 0 (Some end_position))))) ]
 
     less_list : new.recency ≡ now.recency
     less_list = d.recency.2 ∙ ap (map (renumbered_member id 0)) kept_list ∙ mapped-same (renumbered_member id 0) now.recency (λ w on. renumbered-other id 0 w (beside w on))
@@ -153,9 +153,9 @@ module _ (id : ℕ) (old now : Memory) (h : IsDroppingIdle id old now) where
       free = free-renumbered h.chain.chain.pins h.free;
       some = let long = ap length f.2 in subst (λ vs. 0 < length vs) (sym f.3) (omega (arith, long, more));
       bare = λ j v at. let a = subst (λ vs. IsVersionAt vs j v) f.3 at in h.bare (suc j) v (record { older = f.0 ∷ a.older; newer = a.newer; split = f.2 ∙ ap (λ l. f.0 ∷ l) a.split; number = ap suc a.number });
-      unlisted = λ j at on. h.unlisted j at (subst (λ l. Contains l (member id j at)) less_list on);
+      unlisted = λ j at on. h.unlisted j at (subst (λ l. Contains l (member_at id j at)) less_list on);
       chains = d.chains ∙ ap (on_chain id (on_shown (shown_without 0))) h.chains
-          ∙ ap (λ o. put id (option_map (on_shown (shown_without 0)) o) (put id (Some h.chain) old.chains)) (put-at old.chains id (Some h.chain)) ∙ put-put old.chains id (Some (on_shown (shown_without 0) h.chain)) (Some h.chain);
+          ∙ ap (λ o. put_at_number id (option_map (on_shown (shown_without 0)) o) (put_at_number id (Some h.chain) old.chains)) (put-at old.chains id (Some h.chain)) ∙ put-put old.chains id (Some (on_shown (shown_without 0) h.chain)) (Some h.chain);
       recency = less_list ∙ h.recency;
       dropped = d.dropped ∙ h.dropped;
       counts = d.counts ∙ h.counts;
@@ -183,7 +183,7 @@ module _ (id : ℕ) (old now : Memory) (h : IsDroppingIdle id old now) where
 
   pub idle-gone : (new : Memory) → IsChainDropped id now.recency now new → IsChainDropped id old.recency old new
   idle-gone new g = record {
-    chains = g.chains ∙ ap (put id None) h.chains ∙ put-put old.chains id None (Some h.chain);
+    chains = g.chains ∙ ap (put_at_number id None) h.chains ∙ put-put old.chains id None (Some h.chain);
     recency = g.recency ∙ h.recency;
     dropped = g.dropped ∙ ap (λ l. l ++ (id ∷ [])) h.dropped;
     counts = g.counts ∙ h.counts;

@@ -17,7 +17,7 @@ use Rattle.rc_version.specs.Versions.{IsMarked, IsVersionOf}
 use Rattle.rc_version.specs.laws.Marked.{marked-same, marked-then}
 use Rattle.rc_version.specs.laws.Staying.{version-outward}
 use Rattle.rc_memory.specs.Partitions.{PartitionEntry, StandingVersion, partition_of, standing}
-use Rattle.rc_registry.specs.Registry.{Registry, IsNumberIn, put, use_at}
+use Rattle.rc_registry.specs.Registry.{Registry, IsNumberIn, put_at_number, use_at}
 use Rattle.rc_memory.specs.declared.counts.Counts.{Counts}
 use Rattle.rc_memory.specs.Memory.{KeptChain, Memory, IsVersionAt, chain_at, chain_made, empty_chain, more_versions, on_chain, on_shown, partition_and, shown_updating, shown_with, update_begun}
 use Rattle.rc_memory.specs.Kept.{HoldMemory}
@@ -28,15 +28,15 @@ use Rattle.rc_memory.specs.laws.Versions.{still-at}
 use Rattle.rc_chain.specs.Lives.{IsChainChanged, IsChainMade, flag_of_new, is_cache, with_version_over}
 use Rattle.rc_chain.proofs.Living.{IsStandingAt, all-stand}
 
-pub put-put : {X : Type 0} (xs : List (Option X)) (n : ℕ) (a b : Option X) → put n a (put n b xs) ≡ put n a xs
+pub put-put : {X : Type 0} (xs : List (Option X)) (n : ℕ) (a b : Option X) → put_at_number n a (put_at_number n b xs) ≡ put_at_number n a xs
 put-put [] zero a b = refl
 put-put [] (suc n) a b = ap (λ l. None ∷ l) (put-put [] n a b)
 put-put (x ∷ xs) zero a b = refl
 put-put (x ∷ xs) (suc n) a b = ap (λ l. x ∷ l) (put-put xs n a b)
 
 -- something done to what was put at a number
-on-put : (cs : List (Option KeptChain)) (id : ℕ) (k : KeptChain) (f : KeptChain → KeptChain) → on_chain id f (put id (Some k) cs) ≡ put id (Some (f k)) cs
-on-put cs id k f = ap (λ o. put id (option_map f o) (put id (Some k) cs)) (put-at cs id (Some k)) ∙ put-put cs id (Some (f k)) (Some k)
+on-put : (cs : List (Option KeptChain)) (id : ℕ) (k : KeptChain) (f : KeptChain → KeptChain) → on_chain id f (put_at_number id (Some k) cs) ≡ put_at_number id (Some (f k)) cs
+on-put cs id k f = ap (λ o. put_at_number id (option_map f o) (put_at_number id (Some k) cs)) (put-at cs id (Some k)) ∙ put-put cs id (Some (f k)) (Some k)
 
 -- two things done to one chain
 mapped-twice : {X : Type 0} (f g : X → X) (o : Option X) → option_map g (option_map f o) ≡ option_map (λ x. g (f x)) o
@@ -44,12 +44,12 @@ mapped-twice f g None = refl
 mapped-twice f g (Some x) = refl
 
 pub on-twice : (cs : List (Option KeptChain)) (id : ℕ) (f g : KeptChain → KeptChain) → on_chain id g (on_chain id f cs) ≡ on_chain id (λ k. g (f k)) cs
-on-twice cs id f g = ap (λ o. put id (option_map g o) (on_chain id f cs)) (put-at cs id (option_map f (slice_index_or cs id None)))
-    ∙ put-put cs id (option_map g (option_map f (slice_index_or cs id None))) (option_map f (slice_index_or cs id None)) ∙ ap (λ o. put id o cs) (mapped-twice f g (slice_index_or cs id None))
+on-twice cs id f g = ap (λ o. put_at_number id (option_map g o) (on_chain id f cs)) (put-at cs id (option_map f (slice_index_or cs id None)))
+    ∙ put-put cs id (option_map g (option_map f (slice_index_or cs id None))) (option_map f (slice_index_or cs id None)) ∙ ap (λ o. put_at_number id o cs) (mapped-twice f g (slice_index_or cs id None))
 
 -- two changes that are alike for the chain that is there
 pub on-alike : (cs : List (Option KeptChain)) (id : ℕ) (f g : KeptChain → KeptChain) → ((k : KeptChain) → slice_index_or cs id None ≡ Some k → f k ≡ g k) → on_chain id f cs ≡ on_chain id g cs
-on-alike cs id f g alike = ap (λ o. put id o cs) (of (slice_index_or cs id None) refl)
+on-alike cs id f g alike = ap (λ o. put_at_number id o cs) (of (slice_index_or cs id None) refl)
   where
     of : (o : Option KeptChain) → slice_index_or cs id None ≡ o → option_map f o ≡ option_map g o
     of None e = refl
@@ -72,7 +72,7 @@ module _ (slots : Slots) (old mid new : View) (registry later : Registry) (count
     | inl here ↦ absurd (no_some a.partition (sym none-stands ∙ ap (λ x. slice_index_or m.standing x None) (sym here) ∙ a.chain))
     | inr ne ↦ record {
       partition = a.partition;
-      chain = put-beside (put id (Some (partition_of root [])) m.standing) id (option_map (partition_and new_version) (slice_index_or (put id (Some (partition_of root [])) m.standing) id None)) i ne ∙ put-beside m.standing id (Some (partition_of root [])) i ne ∙ a.chain;
+      chain = put-beside (put_at_number id (Some (partition_of root [])) m.standing) id (option_map (partition_and new_version) (slice_index_or (put_at_number id (Some (partition_of root [])) m.standing) id None)) i ne ∙ put-beside m.standing id (Some (partition_of root [])) i ne ∙ a.chain;
       number = a.number;
     }
   ]

@@ -15,9 +15,9 @@ use Rattle.rc_core.specs.Steps.{version_of}
 use Rattle.rc_core.specs.Version.{Version, end_position}
 use Rattle.rc_version.specs.Versions.{IsMarked, IsUnlisted, IsVersionOf}
 use Rattle.rc_memory.specs.Partitions.{AreStanding, PartitionEntry, StandingVersion, among, partition_of, standing}
-use Rattle.rc_registry.specs.Registry.{Registry, IsNumberIn, new_use, on_use, put, set_updating, use_at, with_use, without_version}
+use Rattle.rc_registry.specs.Registry.{Registry, IsNumberIn, new_use, on_use, put_at_number, set_updating, use_at, with_use, without_version}
 use Rattle.rc_memory.specs.declared.counts.Counts.{Counts}
-use Rattle.rc_memory.specs.Memory.{KeptChain, Memory, IsVersionAt, chain_at, chain_made, closed, fewer_versions, listed_as, more_versions, on_shown, update_begun}
+use Rattle.rc_memory.specs.Memory.{KeptChain, Memory, IsVersionAt, chain_at, chain_made, without_chain, fewer_versions, listed_as, more_versions, on_shown, update_begun}
 use Rattle.rc_memory.specs.Kept.{IsMemory}
 use Rattle.rc_memory.specs.Changes.{CanDrop, NothingListed}
 use Rattle.rc_memory.specs.laws.At.{unused-chain}
@@ -109,11 +109,11 @@ module _ (S : ℕ) (slots : Slots) (old : View) (registry : Registry) (counts : 
 
   -- the last version was dropped, and the root slot with it
   pub gone-here : (mid new : View) (id : ℕ) (root : Root) (s : StandingVersion) → slice_index_or m.standing id None ≡ Some (partition_of root (s ∷ [])) → NothingListed id 0 m → IsTakenAway old mid root s.object → IsRootDropped mid new root → SameButRoots mid new → IsWell new
-      → HasBecome S slots new (record { uses = put id None registry.uses; dropped = registry.dropped ++ (id ∷ []) }) counts (IsChainDropped id m.recency m)
+      → HasBecome S slots new (record { uses = put_at_number id None registry.uses; dropped = registry.dropped ++ (id ∷ []) }) counts (IsChainDropped id m.recency m)
   gone-here mid new id root s there free t gone same well =
       let k = memory-gone S slots old mid new registry counts m h id root s there free t.well t.slots (t.dropped slots) t.statics gone same well in (
-        closed id new m,
+        without_chain id new m,
         k,
-        chain-dropped-is slots old mid new registry (record { uses = put id None registry.uses; dropped = registry.dropped ++ (id ∷ []) }) counts m h.held id (partition_of root (s ∷ [])) s there
+        chain-dropped-is slots old mid new registry (record { uses = put_at_number id None registry.uses; dropped = registry.dropped ++ (id ∷ []) }) counts m h.held id (partition_of root (s ∷ [])) s there
             (record { older = []; newer = []; split = refl; number = refl }) root gone same t.statics t.budget t.moved t.compacted t.epoch k.held,
       )

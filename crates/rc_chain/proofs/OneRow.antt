@@ -11,7 +11,7 @@ use Rattle.lsa_kinds.specs.Kinds.{up8}
 use Rattle.rc_rowcode.specs.Spelling.{pos_code, row_code}
 use Rattle.rc_core.specs.declared.entries.Entry.{Entry}
 use Rattle.rc_core.specs.declared.entries.Flag.TheVariants.{Inherit}
-use Rattle.rc_core.specs.Change.{dummy, mark, split, split_by, with_row}
+use Rattle.rc_core.specs.Change.{dummy, gap_split, mark, split_by, with_row}
 use Rattle.rc_core.specs.Steps.{row_joined, version_of}
 use Rattle.rc_core.specs.Version.{Version, end_position}
 use Rattle.rc_core.specs.laws.Placed.{not_end}
@@ -40,7 +40,7 @@ end_dummy = dummy end_position (mark Inherit None)
 module _ (x : Pos) (row : Row) (phase : ℕ) (before : IsBefore x end_position) where
   -- the entry of the row, and the end dummy
   pub two-entries : (row_joined x row (version_of Inherit None phase)).entries ≡ with_row row (dummy x (mark Inherit None)) ∷ end_dummy ∷ []
-  two-entries = ap (λ es. map (λ (e : Entry). cond (eq_by_cmp pos_cmp x e.position) (with_row row e) e) es) (ap (λ o. split_by o x end_dummy [] (split x [])) before)
+  two-entries = ap (λ es. map (λ (e : Entry). cond (eq_by_cmp pos_cmp x e.position) (with_row row e) e) es) (ap (λ o. split_by o x end_dummy [] (gap_split x [])) before)
       ∙ (λ i. cond (here x i) (with_row row (dummy x (mark Inherit None))) (dummy x (mark Inherit None)) ∷ cond (off x end_position (not_end x before) i) (with_row row end_dummy) end_dummy ∷ [])
 
   pub row-objects : version_objects (row_joined x row (version_of Inherit None phase)) ≡ 3

@@ -10,7 +10,7 @@ use Rattle.rc_core.specs.Version.{Version}
 use Rattle.lsa_region.specs.Region.{View}
 use Rattle.lsa_list.specs.declared.recency.List.{List as Slots}
 use Rattle.rc_core.specs.Steps.{MayPopulate, free_number, pin_at}
-use Rattle.rc_registry.specs.Registry.{Registry, on_use, put, use_at, with_pin}
+use Rattle.rc_registry.specs.Registry.{Registry, on_use, put_at_number, use_at, with_pin}
 use Rattle.rc_memory.specs.declared.counts.Counts.{Counts}
 use Rattle.rc_memory.specs.Memory.{HasChain, HasPin, HasVersion, IsTold, IsVersionAt, KeptChain, Memory, chain_at, on_chain, snapshot_number, with_chains, with_dropped, with_snapshot}
 use Rattle.rc_memory.specs.Kept.{AreKept, HoldMemory, IsMemory, IsSoundChain}
@@ -124,7 +124,7 @@ module _ (S : ℕ) (slots : Slots) (v : View) (registry : Registry) (counts : Co
   after-pin (Err e) new a b = (m, subst (λ r. IsMemory S slots v r counts m) (sym b) h)
 
   pub snapped-now : pinned_memory ≡ with_chains (on_chain id (λ k. with_snapshot (snapshot_number k.chain) k) m.chains) m
-  snapped-now = ap (λ o. with_chains (put id o m.chains) m) (maps_same (with_snapshot number) (λ k. with_snapshot (snapshot_number k.chain) k) (chain_at m id) (λ k e. ap (λ n. with_snapshot n k) (told k e)))
+  snapped-now = ap (λ o. with_chains (put_at_number id o m.chains) m) (maps_same (with_snapshot number) (λ k. with_snapshot (snapshot_number k.chain) k) (chain_at m id) (λ k e. ap (λ n. with_snapshot n k) (told k e)))
 
   pub snapped-number : (pin : ℕ) → IfSome (use_at registry.uses id) (λ u. pin ≡ free_number u.pins) → IfSome (chain_at m id) (λ k. pin ≡ free_number k.chain.pins)
   snapped-number pin given = all (λ k. pin ≡ free_number k.chain.pins) (chain_at m id)

@@ -16,7 +16,7 @@ use Rattle.rc_memory.specs.Lists.{elem-cases, elem-first, elem-here, elem-later,
 use Rattle.rc_registry.specs.Registry.{Registry}
 use Rattle.rc_memory.specs.declared.counts.Counts.{Counts}
 use Rattle.rc_memory.specs.Memory.{KeptChain, Member, Memory, HasPin, HasVersion, IsVersionObject, chain_at, listed_as}
-use Rattle.rc_memory.specs.Changes.{Nowhere, StandStill, member}
+use Rattle.rc_memory.specs.Changes.{Nowhere, StandStill, member_at}
 use Rattle.rc_memory.specs.Kept.{HoldMemory, IsSoundChain}
 use Rattle.rc_memory.specs.laws.Listing.{listed-decided}
 use Rattle.rc_memory.specs.laws.Places.{tails, heads}
@@ -34,7 +34,7 @@ use Rattle.rc_chain.proofs.Snapshots.{same-number}
 
 -- what is told of an entry of the version is told of its place
 pub entry-told : (slots : Slots) (v : View) (registry : Registry) (counts : Counts) (m : Memory) (h : HoldMemory slots v registry counts m) (id j : ℕ) (n : Ref) → HasVersion m id j → IsVersionObject m id j n → (x : Pos) (o : Option Ref)
-    → ((refs : List Ref) (c : Version) → IsVersionOf v n refs c → IsEntryFound v refs c x o) → IsFoundAt m (member id j (Some x)) o
+    → ((refs : List Ref) (c : Version) → IsVersionOf v n refs c → IsEntryFound v refs c x o) → IsFoundAt m (member_at id j (Some x)) o
 entry-told slots v registry counts m h id j n has object x o told =
     let a = held-version slots v registry counts m h id j n has object in
     entry-found slots v registry counts m id j a.0 a.1 n a.2 x o (told (standing-as slots v registry counts m id j a.0 a.1 n a.2).entries a.1 (stands slots v registry counts m id j a.0 a.1 n a.2))
@@ -216,21 +216,21 @@ touching-start id x m once = record {
   still = still-itself Nowhere m;
 }
 
-at-below-more : (id n : ℕ) (x : Pos) (w : Member) → (IsAtBelow id n x w ⊎ (w ≡ member id n (Some x))) → IsAtBelow id (n + 1) x w
+at-below-more : (id n : ℕ) (x : Pos) (w : Member) → (IsAtBelow id n x w ⊎ (w ≡ member_at id n (Some x))) → IsAtBelow id (n + 1) x w
 at-below-more id n x w (inl at) = let low = at.1 in (at.0, omega (arith, low), at.2)
 at-below-more id n x w (inr same) = let is : w.version ≡ n = ap (λ (y : Member). y.version) same in (ap (λ (y : Member). y.chain) same, omega (arith, is), ap (λ (y : Member). y.position) same)
 
-more-at-below : (id n : ℕ) (x : Pos) (w : Member) → IsAtBelow id (n + 1) x w → IsAtBelow id n x w ⊎ (w ≡ member id n (Some x))
+more-at-below : (id n : ℕ) (x : Pos) (w : Member) → IsAtBelow id (n + 1) x w → IsAtBelow id n x w ⊎ (w ≡ member_at id n (Some x))
 more-at-below id n x w at = elim (below-or w.version n at.1) [
   | inl low ↦ inl (at.0, low, at.2)
   | inr same ↦ inr (λ i. record { chain = at.0 i; version = same i; position = at.2 i })
 ]
 
 module _ (id : ℕ) (x : Pos) (n : ℕ) (old now new : Memory) (h : IsTouchingKey id x n old now)
-    (touched : (front back : List Member) → now.recency ≡ front ++ (member id n (Some x) ∷ back) → new ≡ listed_as ((front ++ back) ++ (member id n (Some x) ∷ [])) new.region now)
-    (unlisted : (Contains now.recency (member id n (Some x)) → ⊥) → new ≡ now) (objects : SameObjects now.region new.region) (still : StandStill Nowhere now new) where
+    (touched : (front back : List Member) → now.recency ≡ front ++ (member_at id n (Some x) ∷ back) → new ≡ listed_as ((front ++ back) ++ (member_at id n (Some x) ∷ [])) new.region now)
+    (unlisted : (Contains now.recency (member_at id n (Some x)) → ⊥) → new ≡ now) (objects : SameObjects now.region new.region) (still : StandStill Nowhere now new) where
   abbrev this : Member
-  this = member id n (Some x)
+  this = member_at id n (Some x)
 
   list_now : now.recency ≡ h.list
   list_now = ap (λ (m : Memory). m.recency) h.same
@@ -238,10 +238,10 @@ module _ (id : ℕ) (x : Pos) (n : ℕ) (old now new : Memory) (h : IsTouchingKe
   fresh : IsAtBelow id n x this → ⊥
   fresh at = let low = at.1 in omega (arith, low)
 
-  more : (list : List Member) → new ≡ listed_as list new.region old → AllPairs ◌≢◌ list → IsTouched (λ w. IsAtBelow id n x w ⊎ (w ≡ member id n (Some x))) old.recency list → IsTouchingKey id x (n + 1) old new
+  more : (list : List Member) → new ≡ listed_as list new.region old → AllPairs ◌≢◌ list → IsTouched (λ w. IsAtBelow id n x w ⊎ (w ≡ member_at id n (Some x))) old.recency list → IsTouchingKey id x (n + 1) old new
   more list same once t = record {
     list = list;
-    touched = touched-as (λ w. IsAtBelow id n x w ⊎ (w ≡ member id n (Some x))) old.recency list t (IsAtBelow id (n + 1) x) (at-below-more id n x) (more-at-below id n x);
+    touched = touched-as (λ w. IsAtBelow id n x w ⊎ (w ≡ member_at id n (Some x))) old.recency list t (IsAtBelow id (n + 1) x) (at-below-more id n x) (more-at-below id n x);
     same = same;
     once = once;
     objects = objects-then old.region now.region new.region h.objects objects;

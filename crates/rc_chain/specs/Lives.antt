@@ -20,10 +20,10 @@ use Rattle.rc_core.specs.Chains.{Shown}
 use Rattle.rc_core.specs.Free.{free_entry, free_statics}
 use Rattle.rc_core.specs.Steps.{on_newest, version_of, with_phase}
 use Rattle.rc_core.specs.Version.{Version, end_position}
-use Rattle.rc_registry.specs.Registry.{AreFree, IsNumberIn, put}
+use Rattle.rc_registry.specs.Registry.{AreFree, IsNumberIn, put_at_number}
 use Rattle.rc_memory.specs.Memory.{KeptChain, Member, Memory, IsMemberObject, IsVersionAt, chain_at, listed_as, on_chain, on_shown, renumbered_member, shown_with, shown_without}
 use Rattle.rc_memory.specs.Recency.{IsLastInner}
-use Rattle.rc_memory.specs.Changes.{AtAlone, IsUnmoved, IsVersionChanged, IsWithout, Nowhere, OfVersion, StandStill, member}
+use Rattle.rc_memory.specs.Changes.{AtAlone, IsUnmoved, IsVersionChanged, IsWithout, Nowhere, OfVersion, StandStill, member_at}
 
 -- the flag of all that the version of a new chain says: nothing is known in a cache chain, and in a memtable's nothing is said
 abbrev pub flag_of_new : ChainKind → Flag
@@ -42,13 +42,13 @@ pub record IsEndAlone (v : Version) : Type 0 where
 -- the list with the end dummy of a cache chain's version at its back
 abbrev pub with_end_listed : ChainKind → ℕ → ℕ → List Member → List Member
 with_end_listed Memtable id j list = list
-with_end_listed Cache id j list = list ++ (member id j (Some end_position) ∷ [])
+with_end_listed Cache id j list = list ++ (member_at id j (Some end_position) ∷ [])
 
 -- such a chain came to be, whose number no other chain has, nor one that is to be told; the list is this
 pub record IsChainMade (id : ℕ) (kind : ChainKind) (pt : Option Tomb) (phase : ℕ) (list : List Member) (old new : Memory) : Type 0 where
   pub vacant : chain_at old id ≡ None
   pub told : IsNumberIn old.dropped id → ⊥
-  pub chains : new.chains ≡ put id (Some (chain_of_new kind pt phase)) old.chains
+  pub chains : new.chains ≡ put_at_number id (Some (chain_of_new kind pt phase)) old.chains
   pub recency : new.recency ≡ list
   pub dropped : new.dropped ≡ old.dropped
   pub counts : new.counts ≡ old.counts
@@ -80,21 +80,21 @@ pub record IsChainChanged (id : ℕ) (f : KeptChain → KeptChain) (list : List 
 
 -- the place of the last entry before the end of a version, where that is out of the list
 abbrev pub IsLastUnlisted : ℕ → ℕ → Version → List Member → Option Member → Type 0
-IsLastUnlisted id j v list None = (at : Option Pos) → IsLastInner v at → Contains list (member id j at)
-IsLastUnlisted id j v list (Some w) = (at : Option Pos) × IsLastInner v at × (w ≡ member id j at) × (Contains list w → ⊥)
+IsLastUnlisted id j v list None = (at : Option Pos) → IsLastInner v at → Contains list (member_at id j at)
+IsLastUnlisted id j v list (Some w) = (at : Option Pos) × IsLastInner v at × (w ≡ member_at id j at) × (Contains list w → ⊥)
 
 -- The list once no update stands in a chain any more. Where one stood in its newest version, the entry at the update's place, if it was out of the list, and then the end dummy are the most recent ones.
 pub record IsEndListed (id : ℕ) (c : Shown) (old new : List Member) : Type 0 where
   pub settled : c.updating ≡ false → new ≡ old
-  pub updated : c.updating ≡ true → (j : ℕ) (v : Version) → suc j ≡ length c.versions → IsVersionAt c.versions j v → (last : Option Member) × IsLastUnlisted id j v old last × (new ≡ (old ++ option_to_list last) ++ (member id j (Some end_position) ∷ []))
+  pub updated : c.updating ≡ true → (j : ℕ) (v : Version) → suc j ≡ length c.versions → IsVersionAt c.versions j v → (last : Option Member) × IsLastUnlisted id j v old last × (new ≡ (old ++ option_to_list last) ++ (member_at id j (Some end_position) ∷ []))
 
 -- the newest version of a chain that is found by its key has a phase
-abbrev pub relabelled : ℕ → KeptChain → KeptChain
-relabelled phase k = cond k.chain.attached (on_shown (λ c. shown_with (on_newest (with_phase phase) c.versions) c) k) k
+abbrev pub relabelled_chain : ℕ → KeptChain → KeptChain
+relabelled_chain phase k = cond k.chain.attached (on_shown (λ c. shown_with (on_newest (with_phase phase) c.versions) c) k) k
 
 -- so of each chain; all else is as it was
 pub record IsRelabelled (phase : ℕ) (old new : Memory) : Type 0 where
-  pub chains : new.chains ≡ list_map (option_map (relabelled phase)) old.chains
+  pub chains : new.chains ≡ list_map (option_map (relabelled_chain phase)) old.chains
   pub recency : new.recency ≡ old.recency
   pub dropped : new.dropped ≡ old.dropped
   pub counts : new.counts ≡ old.counts
@@ -104,7 +104,7 @@ pub record IsRelabelled (phase : ℕ) (old new : Memory) : Type 0 where
 -- the version of a number of a chain is gone, and with it its end dummy, which was the last of its objects; newer ones have numbers less by one, and the places of their objects with them
 pub record IsVersionDropped (id j : ℕ) (old new : Memory) : Type 0 where
   pub chains : new.chains ≡ on_chain id (on_shown (shown_without j)) old.chains
-  pub recency : (list : List Member) × IsWithout (member id j (Some end_position)) old.recency list × (new.recency ≡ list_map (renumbered_member id j) list)
+  pub recency : (list : List Member) × IsWithout (member_at id j (Some end_position)) old.recency list × (new.recency ≡ list_map (renumbered_member id j) list)
   pub dropped : new.dropped ≡ old.dropped
   pub counts : new.counts ≡ old.counts
   pub objects : (r : Ref) (w : Member) → IsMemberObject old r w → (w.chain ≡ id → w.version ≡ j → ⊥) → IsMemberObject new r (renumbered_member id j w)
@@ -112,7 +112,7 @@ pub record IsVersionDropped (id j : ℕ) (old new : Memory) : Type 0 where
 
 -- a chain is gone, of which only end dummies were left, and its number is to be told; the list is this
 pub record IsChainDropped (id : ℕ) (list : List Member) (old new : Memory) : Type 0 where
-  pub chains : new.chains ≡ put id None old.chains
+  pub chains : new.chains ≡ put_at_number id None old.chains
   pub recency : new.recency ≡ list
   pub dropped : new.dropped ≡ old.dropped ++ (id ∷ [])
   pub counts : new.counts ≡ old.counts
@@ -124,7 +124,7 @@ pub record IsIdle (m : Memory) (id : ℕ) (c : Shown) : Type 0 where
   pub cached : c.kind ≡ Cache
   pub settled : c.updating ≡ false
   pub unpinned : AreFree c.pins
-  pub unlisted : (j : ℕ) (at : Option Pos) → Contains m.recency (member id j at) → ⊥
+  pub unlisted : (j : ℕ) (at : Option Pos) → Contains m.recency (member_at id j at) → ⊥
 
 -- the last entry before the end of the oldest version was freed
 pub record IsEntryFreed (id : ℕ) (old new : Memory) : Type 0 where
@@ -132,20 +132,20 @@ pub record IsEntryFreed (id : ℕ) (old new : Memory) : Type 0 where
   pub there : OfVersion old id 0 (λ k v. HasEntryAt at v.entries)
   pub inner : at ≡ end_position → ⊥
   pub last : OfVersion old id 0 (λ k v. IsLastInner v (Some at))
-  pub changed : (k : KeptChain) → chain_at old id ≡ Some k → IsVersionChanged id 0 (free_entry k.chain.kind at) (AtAlone (member id 0 (Some at))) old new
-  pub recency : IsWithout (member id 0 (Some at)) old.recency new.recency
+  pub changed : (k : KeptChain) → chain_at old id ≡ Some k → IsVersionChanged id 0 (free_entry k.chain.kind at) (AtAlone (member_at id 0 (Some at))) old new
+  pub recency : IsWithout (member_at id 0 (Some at)) old.recency new.recency
 
 -- its static row was freed, where no entry stands before the end
 pub record IsStaticFreed (id : ℕ) (old new : Memory) : Type 0 where
   pub there : OfVersion old id 0 (λ k v. IsSome v.statics)
   pub alone : OfVersion old id 0 (λ k v. (at : Option Pos) → IsLastInner v at → ⊥)
-  pub changed : (k : KeptChain) → chain_at old id ≡ Some k → IsVersionChanged id 0 (free_statics k.chain.kind) (AtAlone (member id 0 None)) old new
-  pub recency : IsWithout (member id 0 None) old.recency new.recency
+  pub changed : (k : KeptChain) → chain_at old id ≡ Some k → IsVersionChanged id 0 (free_statics k.chain.kind) (AtAlone (member_at id 0 None)) old new
+  pub recency : IsWithout (member_at id 0 None) old.recency new.recency
 
 -- the chain was dropped, of which the end dummy of one version was left
 pub record IsLastDropped (id : ℕ) (old new : Memory) : Type 0 where
   pub list : List Member
-  pub recency : IsWithout (member id 0 (Some end_position)) old.recency list
+  pub recency : IsWithout (member_at id 0 (Some end_position)) old.recency list
   pub dropped : IsChainDropped id list old new
 
 -- of the oldest version of a chain the last entry before the end was freed; where none was there, its static row; where its end dummy alone was left, the version itself with it, or with both the chain, of which it was the last version

@@ -20,24 +20,24 @@ ghost use Rattle.rc_core.specs.declared.entries.Flag.TheVariants.{Inherit, Known
 ghost use Rattle.rc_core.specs.declared.parts.Part.TheVariants as part;
 ghost use Rattle.rc_core.specs.declared.parts.Part.TheVariants.{Gap};
 ghost use Rattle.rc_core.specs.AtPlace.{EachEntry, HasEntryAt, IsAtPlace};
-ghost use Rattle.rc_core.specs.Chain.{IsKnown, base, content, decides, first_flag, flag_over, flagged, states_at};
+ghost use Rattle.rc_core.specs.Chain.{IsKnown, base, content, decides, first_flag, flag_over, has_flag, states_at};
 ghost use Rattle.rc_core.specs.Chains.{IsChainContinuous, IsMemtableChain, IsNeeded, IsPinned, IsUpdating, Shown, at_place, phase_at, upto, with_versions};
-ghost use Rattle.rc_core.specs.Change.{drop_at, dummy, joined_onto, lost_mark, position_of, raised_mark, split, with_gap, with_mark, with_marks, with_row};
+ghost use Rattle.rc_core.specs.Change.{drop_at, dummy, gap_split, joined_onto, lost_mark, position_of, raised_mark, with_gap, with_mark, with_marks, with_row};
 ghost use Rattle.rc_core.specs.Continuity.{EachOf, IsContinuous, IsEvicted, IsSameOrLost, static_states, version_tombs, with_entries, without_statics};
 ghost use Rattle.rc_core.specs.Free.{IsAbandoned, free_entry, free_statics, freed_mark};
 ghost use Rattle.rc_core.specs.Merge.{IsSeenAlike, IsSilent};
 ghost use Rattle.rc_core.specs.Parts.{IsFirstPart};
 ghost use Rattle.rc_core.specs.SpotState.{joined_state, through};
 ghost use Rattle.rc_core.specs.StandsFor.{StandsFor};
-ghost use Rattle.rc_core.specs.Steps.{IsCarriedIn, IsChain, IsSnapshotOf, MayPopulate, add_version, begin_update, detach, drop_version, free_number, join_flagged_statics, join_pt, new_chain, on_newest, opened_version, pin_at, pinned, range_joined, release, released, renumbered, row_joined, set_flags, set_static_flag, set_statics, set_tombs, snapshot, version_of, with_flags, with_newest, with_phase, with_tombs, with_updating, with_version};
-ghost use Rattle.rc_core.specs.Version.{IsBeforeEnd, IsVersion, On, Spot, Version, end_position, found, seen, state_at, state_of, static_state};
+ghost use Rattle.rc_core.specs.Steps.{IsCarriedIn, IsChain, IsSnapshotOf, MayPopulate, add_version, begin_update, detach, drop_version, free_number, join_flagged_statics, join_pt, new_chain, number_after_removal, on_newest, opened_version, pin_at, pins_with, pins_without, range_joined, release, row_joined, set_flags, set_static_flag, set_statics, set_tombs, snapshot, version_of, with_flags, with_newest, with_phase, with_tombs, with_updating, with_version};
+ghost use Rattle.rc_core.specs.Version.{IsBeforeEnd, IsVersion, On, Spot, Version, end_position, finding_in, finding_of, state_at, state_of, static_state};
 ghost use Rattle.rc_units.specs.Chained.{objects_of};
 ghost use Rattle.rc_version.specs.Versions.{raised_between};
 ghost use Rattle.rc_rowcode.specs.Spelling.{pos_code, row_code};
 ghost use Rattle.rc_memory.specs.Kept.{IsSoundChain, present};
 ghost use Rattle.rc_memory.specs.Room.{chain_bytes, chain_objects};
 ghost use Rattle.rc_memory.specs.Memory.{KeptChain, Memory, on_version_of, shown_detached, shown_pinned, shown_updating, shown_with, shown_without, snapshot_number, with_snapshot, without_snapshot};
-ghost use Rattle.rc_chain.specs.Lives.{chain_of_new, flag_of_new, relabelled, with_version_over};
+ghost use Rattle.rc_chain.specs.Lives.{chain_of_new, flag_of_new, relabelled_chain, with_version_over};
 
 use rc_core::laws::carrying::{
     a_dropped_version_keeps_what_is_carried, an_update_keeps_what_is_carried,
@@ -100,8 +100,8 @@ pub fn a_shown_chain_is_a_chain_with_its_place()
     ensures begun { (p : Place) (phase : ℕ) (c : Shown) → c.kind ≡ Cache → at_place Head (with_version_over phase c) ≡ begin_update phase (at_place p c) }
     ensures ended { (p q : Place) (c : Shown) → at_place q (shown_updating false c) ≡ with_updating None (at_place p c) }
     ensures relabelled { (p : Place) (phase : ℕ) (c : Shown) → at_place p (shown_with (on_newest (with_phase phase) c.versions) c) ≡ with_newest (with_phase phase) (at_place p c) }
-    ensures pinned { (p : Place) (version : ℕ) (c : Shown) → at_place p (shown_pinned (pinned version c.pins) c) ≡ snapshot version (at_place p c) }
-    ensures released { (p : Place) (pin : ℕ) (c : Shown) → at_place p (shown_pinned (released pin c.pins) c) ≡ release pin (at_place p c) }
+    ensures pinned { (p : Place) (version : ℕ) (c : Shown) → at_place p (shown_pinned (pins_with version c.pins) c) ≡ snapshot version (at_place p c) }
+    ensures released { (p : Place) (pin : ℕ) (c : Shown) → at_place p (shown_pinned (pins_without pin c.pins) c) ≡ release pin (at_place p c) }
     ensures detached { (p q : Place) (c : Shown) → at_place q (shown_detached c) ≡ detach (at_place p c) }
     ensures changed { (p : Place) (j : ℕ) (f : Version → Version) (c : Shown) → at_place p (on_version_of j f c) ≡ with_version j f (at_place p c) }
     ensures dropped { (p : Place) (j : ℕ) (c : Shown) → at_place p (shown_without j c) ≡ drop_version j (at_place p c) }
@@ -164,10 +164,10 @@ pub fn a_settled_chain_keeps_what_is_said()
 pub fn a_relabelled_chain_keeps_what_is_said()
     ensures chain { (below : ℕ → List Mutation) (p : Place) (k : KeptChain) (newest phase : ℕ) → suc newest ≡ length k.chain.versions → IsChain (at_place p k.chain) →
         (k.chain.attached ≡ true → SameSource (below (phase_at k.chain.versions newest)) (below phase)) →
-        IsChainContinuous below (at_place p k.chain) → IsChainContinuous below (at_place p (relabelled phase k).chain) }
-    ensures form { (p : Place) (k : KeptChain) (newest phase : ℕ) → suc newest ≡ length k.chain.versions → IsChain (at_place p k.chain) → IsChain (at_place p (relabelled phase k).chain) }
-    ensures seen { (k : KeptChain) (newest phase : ℕ) → suc newest ≡ length k.chain.versions → IsSeenAlike k.chain.versions (relabelled phase k).chain.versions }
-    ensures carried { (p : Place) (k : KeptChain) (newest phase : ℕ) (x : Pos) → suc newest ≡ length k.chain.versions → IsCarriedIn (at_place p k.chain) x → IsCarriedIn (at_place p (relabelled phase k).chain) x }
+        IsChainContinuous below (at_place p k.chain) → IsChainContinuous below (at_place p (relabelled_chain phase k).chain) }
+    ensures form { (p : Place) (k : KeptChain) (newest phase : ℕ) → suc newest ≡ length k.chain.versions → IsChain (at_place p k.chain) → IsChain (at_place p (relabelled_chain phase k).chain) }
+    ensures seen { (k : KeptChain) (newest phase : ℕ) → suc newest ≡ length k.chain.versions → IsSeenAlike k.chain.versions (relabelled_chain phase k).chain.versions }
+    ensures carried { (p : Place) (k : KeptChain) (newest phase : ℕ) (x : Pos) → suc newest ≡ length k.chain.versions → IsCarriedIn (at_place p k.chain) x → IsCarriedIn (at_place p (relabelled_chain phase k).chain) x }
     ensures below { (below other : ℕ → List Mutation) (p : Place) (c : Shown) → IsChain (at_place p c) →
         ((j : ℕ) → j < length c.versions → SameSource (below (phase_at c.versions j)) (other (phase_at c.versions j))) →
         IsChainContinuous below (at_place p c) → IsChainContinuous other (at_place p c) }
@@ -225,7 +225,7 @@ pub fn what_a_snapshot_knows_is_the_source()
     ensures head { (below : ℕ → List Mutation) (p : Place) (c : Shown) (j : ℕ) → IsChain (at_place p c) → IsChainContinuous below (at_place p c) → IsPinned c.pins j →
         greatest tomb_cmp (version_tombs (upto c.versions j)) ≡ source_at_head (below (phase_at c.versions j)) }
     ensures statics { (below : ℕ → List Mutation) (p : Place) (c : Shown) (j : ℕ) → IsChain (at_place p c) → IsChainContinuous below (at_place p c) → IsPinned c.pins j →
-        IsTrue (flagged Cache (static_states (upto c.versions j))) → content (static_states (upto c.versions j)) ≡ (source_at_static (below (phase_at c.versions j)), None) }
+        IsTrue (has_flag Cache (static_states (upto c.versions j))) → content (static_states (upto c.versions j)) ≡ (source_at_static (below (phase_at c.versions j)), None) }
     ensures known { (below : ℕ → List Mutation) (p : Place) (c : Shown) (j : ℕ) → IsChain (at_place p c) → IsChainContinuous below (at_place p c) → IsPinned c.pins j → (x : Pos) →
         IsKnown Cache (upto c.versions j) x → content (states_at (On x) (upto c.versions j)) ≡ source_at (below (phase_at c.versions j)) x }
     ensures gap { (below : ℕ → List Mutation) (p : Place) (c : Shown) (j : ℕ) → IsChain (at_place p c) → IsChainContinuous below (at_place p c) → IsPinned c.pins j → (x bound to : Pos) (tomb : Option Tomb) →
@@ -238,9 +238,9 @@ pub fn what_a_snapshot_knows_is_the_source()
 
 /// What a snapshot sees at a spot, or at the static row, is what the fold of the versions up to the one that it pins gives; its base is the newest of them that is Known or Unknown there.
 pub fn what_a_snapshot_sees_is_the_fold()
-    ensures flag { (c : Shown) (j : ℕ) (s : Spot) → flagged c.kind (states_at s (upto c.versions j)) ≡ flag_over c.kind (through (states_at s (upto c.versions j))).flag }
+    ensures flag { (c : Shown) (j : ℕ) (s : Spot) → has_flag c.kind (states_at s (upto c.versions j)) ≡ flag_over c.kind (through (states_at s (upto c.versions j))).flag }
     ensures content { (c : Shown) (j : ℕ) (s : Spot) → content (states_at s (upto c.versions j)) ≡ joined_state (through (states_at s (upto c.versions j))) }
-    ensures static_flag { (c : Shown) (j : ℕ) → flagged c.kind (static_states (upto c.versions j)) ≡ flag_over c.kind (through (static_states (upto c.versions j))).flag }
+    ensures static_flag { (c : Shown) (j : ℕ) → has_flag c.kind (static_states (upto c.versions j)) ≡ flag_over c.kind (through (static_states (upto c.versions j))).flag }
     ensures static_content { (c : Shown) (j : ℕ) → content (static_states (upto c.versions j)) ≡ joined_state (through (static_states (upto c.versions j))) }
     ensures decides { (c : Shown) (j i : ℕ) (s : Spot) → base (states_at s (upto c.versions j)) ≡ Some i → IsTrue (decides (first_flag (drop i (states_at s (upto c.versions j))))) }
     ensures newest { (c : Shown) (j i k : ℕ) (s : Spot) → base (states_at s (upto c.versions j)) ≡ Some i → i < k → decides (first_flag (drop k (states_at s (upto c.versions j)))) ≡ false }
@@ -265,7 +265,7 @@ pub fn one_version_of_a_chain_is_changed()
 
 /// Each change of a version of a chain leaves a chain: a split, a joined row, a joined range, a joined partition tombstone, flags and tombstones set, a static row set, joined, flagged or gone, another phase, an entry gone.
 pub fn each_change_of_a_version_leaves_a_chain()
-    ensures split { (p : Place) (c : Shown) (j : ℕ) (x : Pos) → IsChain (at_place p c) → IsChain (at_place p (on_version_of j (λ v. with_entries (split x v.entries) v) c)) }
+    ensures split { (p : Place) (c : Shown) (j : ℕ) (x : Pos) → IsChain (at_place p c) → IsChain (at_place p (on_version_of j (λ v. with_entries (gap_split x v.entries) v) c)) }
     ensures row { (p : Place) (c : Shown) (j : ℕ) (x : Pos) (row : Row) → IsBefore x end_position → IsChain (at_place p c) → IsChain (at_place p (on_version_of j (row_joined x row) c)) }
     ensures range { (p : Place) (c : Shown) (j : ℕ) (from to : Pos) (tomb : Tomb) → IsChain (at_place p c) → IsChain (at_place p (on_version_of j (range_joined from to tomb) c)) }
     ensures head { (p : Place) (c : Shown) (j : ℕ) (tomb : Tomb) → IsChain (at_place p c) → IsChain (at_place p (on_version_of j (join_pt tomb) c)) }
@@ -287,8 +287,8 @@ pub fn each_change_of_a_version_leaves_a_chain()
 /// Each change of a version is one of its entries, or of those of a stretch: all others stay. Between two entries none is made.
 pub fn each_change_of_a_version_is_one_of_its_entries()
     ensures gap { (v : Version) (x : Pos) (front : List Entry) (e : Entry) (back : List Entry) → v.entries ≡ front ++ e ∷ back → EachEntry (λ f. IsBefore f.position x) front → IsBefore x e.position →
-        with_entries (split x v.entries) v ≡ with_entries (front ++ dummy x e.gap ∷ e ∷ back) v }
-    ensures split { (v : Version) (front : List Entry) (e : Entry) (back : List Entry) → IsVersion v → v.entries ≡ front ++ e ∷ back → with_entries (split e.position v.entries) v ≡ v }
+        with_entries (gap_split x v.entries) v ≡ with_entries (front ++ dummy x e.gap ∷ e ∷ back) v }
+    ensures split { (v : Version) (front : List Entry) (e : Entry) (back : List Entry) → IsVersion v → v.entries ≡ front ++ e ∷ back → with_entries (gap_split e.position v.entries) v ≡ v }
     ensures row { (v : Version) (row : Row) (front : List Entry) (e : Entry) (back : List Entry) → IsVersion v → v.entries ≡ front ++ e ∷ back → row_joined e.position row v ≡ with_entries (front ++ with_row row e ∷ back) v }
     ensures range { (v : Version) (tomb : Tomb) (front : List Entry) (from : Entry) (between : List Entry) (to : Entry) (back : List Entry) → IsVersion v → v.entries ≡ front ++ from ∷ (between ++ to ∷ back) →
         range_joined from.position to.position tomb v ≡ with_entries (front ++ with_mark (raised_mark (Some tomb)) from ∷ (map (with_marks (raised_mark (Some tomb))) between ++ with_gap (raised_mark (Some tomb) to.gap) to ∷ back)) v }
@@ -306,17 +306,17 @@ pub fn each_change_of_a_version_is_one_of_its_entries()
 
 /// What a version says after each change: a split changes nothing; a joined row is joined at its position alone; a joined range raises the tombstone inside; a joined partition tombstone raises that of the head; another static row, or another flag of it, changes nothing elsewhere; where an entry or the static row went all is as before, or lost.
 pub fn each_change_of_a_version_is_said_at_its_place()
-    ensures split { (v : Version) (x : Pos) (s : Spot) → state_at s (with_entries (split x v.entries) v) ≡ state_at s v }
-    ensures row { (v : Version) (x : Pos) (row : Row) → IsVersion v → state_at (On x) (row_joined x row v) ≡ state_of (found (seen (On x) v.entries).mark (Some (joined_onto (seen (On x) v.entries).row row))) }
+    ensures split { (v : Version) (x : Pos) (s : Spot) → state_at s (with_entries (gap_split x v.entries) v) ≡ state_at s v }
+    ensures row { (v : Version) (x : Pos) (row : Row) → IsVersion v → state_at (On x) (row_joined x row v) ≡ state_of (finding_of (finding_in (On x) v.entries).mark (Some (joined_onto (finding_in (On x) v.entries).row row))) }
     ensures elsewhere { (v : Version) (x : Pos) (row : Row) (s : Spot) → s ≢ On x → state_at s (row_joined x row v) ≡ state_at s v }
     ensures range { (v : Version) (from to : Pos) (tomb : Tomb) (s : Spot) → IsBeforeEnd s v.entries →
-        state_at s (range_joined from to tomb v) ≡ state_of (cond (covers from to (position_of s)) (found (raised_mark (Some tomb) (seen s v.entries).mark) (seen s v.entries).row) (seen s v.entries)) }
+        state_at s (range_joined from to tomb v) ≡ state_of (cond (covers from to (position_of s)) (finding_of (raised_mark (Some tomb) (finding_in s v.entries).mark) (finding_in s v.entries).row) (finding_in s v.entries)) }
     ensures head { (older newer : List Version) (v : Version) (tomb : Tomb) →
         greatest tomb_cmp (version_tombs (older ++ join_pt tomb v ∷ newer)) ≡ greater tomb_cmp (greatest tomb_cmp (version_tombs (older ++ v ∷ newer))) (Some tomb) }
     ensures head_alone { (v : Version) (tomb : Tomb) (s : Spot) → (state_at s (join_pt tomb v) ≡ state_at s v) × (static_state (join_pt tomb v) ≡ static_state v) }
     ensures statics { (v : Version) (row : Option Row) (flag : Flag) (s : Spot) → state_at s (set_statics row flag v) ≡ state_at s v }
     ensures entry_gone { (v : Version) (x : Pos) (s : Spot) → IsVersion v → IsBefore x end_position →
-        (state_at s (with_entries (drop_at x v.entries) v) ≡ state_at s v) ⊎ (state_at s (with_entries (drop_at x v.entries) v) ≡ state_of (found lost_mark None)) }
+        (state_at s (with_entries (drop_at x v.entries) v) ≡ state_at s v) ⊎ (state_at s (with_entries (drop_at x v.entries) v) ≡ state_of (finding_of lost_mark None)) }
     ensures static_gone { (v : Version) → IsEvicted v (without_statics v) }
 {
     a_split_changes_nothing();
@@ -330,8 +330,8 @@ pub fn each_change_of_a_version_is_said_at_its_place()
 /// A split of a version that is not under update keeps a chain continuous, and nothing that is seen changes.
 pub fn a_split_version_keeps_what_is_said()
     ensures chain { (below : ℕ → List Mutation) (p : Place) (c : Shown) (older newer : List Version) (v : Version) (x : Pos) → c.versions ≡ older ++ v ∷ newer → (newer ≡ [] → c.updating ≡ false) →
-        IsChainContinuous below (at_place p c) → IsChainContinuous below (at_place p (on_version_of (length older) (λ w. with_entries (split x w.entries) w) c)) }
-    ensures seen { (c : Shown) (j : ℕ) (x : Pos) → IsSeenAlike c.versions (on_version_of j (λ w. with_entries (split x w.entries) w) c).versions }
+        IsChainContinuous below (at_place p c) → IsChainContinuous below (at_place p (on_version_of (length older) (λ w. with_entries (gap_split x w.entries) w) c)) }
+    ensures seen { (c : Shown) (j : ℕ) (x : Pos) → IsSeenAlike c.versions (on_version_of j (λ w. with_entries (gap_split x w.entries) w) c).versions }
 {
     a_split_changes_nothing();
     one_version_is_changed();
@@ -364,7 +364,7 @@ pub fn a_version_gone_keeps_what_is_said()
         IsChain (at_place p c) → IsChain (at_place p (shown_without (length older) c)) }
     ensures seen { (p : Place) (c : Shown) (older newer : List Version) (v next : Version) → c.versions ≡ older ++ v ∷ next ∷ newer → (IsNeeded (at_place p c) (length older) → ⊥) → IsSilent v →
         greatest tomb_cmp (option_to_list v.pt ++ option_to_list next.pt) ≡ greatest tomb_cmp (option_to_list next.pt) →
-        (j : ℕ) → IsNeeded (at_place p c) j → IsSeenAlike (upto c.versions j) (upto (shown_without (length older) c).versions (renumbered (length older) j)) }
+        (j : ℕ) → IsNeeded (at_place p c) j → IsSeenAlike (upto c.versions j) (upto (shown_without (length older) c).versions (number_after_removal (length older) j)) }
     ensures carried { (p : Place) (c : Shown) (older newer : List Version) (v next : Version) (x : Pos) → c.versions ≡ older ++ v ∷ next ∷ newer → (IsNeeded (at_place p c) (length older) → ⊥) → IsSilent v →
         greatest tomb_cmp (option_to_list v.pt ++ option_to_list next.pt) ≡ greatest tomb_cmp (option_to_list next.pt) →
         IsCarriedIn (at_place p c) x → IsCarriedIn (at_place p (shown_without (length older) c)) x }
@@ -373,7 +373,7 @@ pub fn a_version_gone_keeps_what_is_said()
         IsMemtableChain (at_place p c) → IsMemtableChain (at_place p (shown_without (length older) c)) }
     ensures stands { (writes : List Mutation) (c : Shown) (older newer : List Version) (v next : Version) → c.versions ≡ older ++ v ∷ next ∷ newer → IsSilent v →
         greatest tomb_cmp (option_to_list v.pt ++ option_to_list next.pt) ≡ greatest tomb_cmp (option_to_list next.pt) → StandsFor writes c.versions → StandsFor writes (shown_without (length older) c).versions }
-    ensures pins { (c : Shown) (j pin : ℕ) → pin_at (shown_without j c).pins pin ≡ option_map (renumbered j) (pin_at c.pins pin) }
+    ensures pins { (c : Shown) (j pin : ℕ) → pin_at (shown_without j c).pins pin ≡ option_map (number_after_removal j) (pin_at c.pins pin) }
 {
     a_dropped_version_keeps_the_whole_chain();
     a_dropped_version_keeps_what_is_carried();
@@ -391,7 +391,7 @@ pub fn a_freed_entry_keeps_what_is_said()
         IsMemtableChain (at_place p c) → IsMemtableChain (at_place p (on_version_of (length older) (free_entry Memtable x) c)) }
     ensures form { (p : Place) (c : Shown) (older newer : List Version) (v : Version) (kind : ChainKind) (x : Pos) → c.versions ≡ older ++ v ∷ newer → IsBefore x end_position → IsChain (at_place p c) → IsChain (at_place p (on_version_of (length older) (free_entry kind x) c)) }
     ensures less { (c : Shown) (older newer : List Version) (v : Version) (kind : ChainKind) (x : Pos) → c.versions ≡ older ++ v ∷ newer → HasEntryAt x v.entries → objects_of (on_version_of (length older) (free_entry kind x) c).versions < objects_of c.versions }
-    ensures said { (kind : ChainKind) (v : Version) (x : Pos) (s : Spot) → IsVersion v → IsBefore x end_position → (state_at s (free_entry kind x v) ≡ state_at s v) ⊎ (state_at s (free_entry kind x v) ≡ state_of (found (freed_mark kind) None)) }
+    ensures said { (kind : ChainKind) (v : Version) (x : Pos) (s : Spot) → IsVersion v → IsBefore x end_position → (state_at s (free_entry kind x v) ≡ state_at s v) ⊎ (state_at s (free_entry kind x v) ≡ state_of (finding_of (freed_mark kind) None)) }
     ensures lost { (v : Version) (x : Pos) → free_entry Cache x v ≡ with_entries (drop_at x v.entries) v }
 {
     one_version_is_changed();

@@ -16,9 +16,9 @@ use Rattle.rc_rowcode.specs.laws.Limits.{row_limits}
 use Rattle.rc_rowcode.specs.laws.Sizes.{pos_code_small, row_code_small}
 use Rattle.lsa_kinds.specs.Kinds.{up8}
 use Rattle.rc_core.specs.declared.entries.Entry.{Entry}
-use Rattle.rc_core.specs.Change.{joined_onto, split, split_by, with_row}
+use Rattle.rc_core.specs.Change.{gap_split, joined_onto, split_by, with_row}
 use Rattle.rc_core.specs.Steps.{on_version, row_joined}
-use Rattle.rc_core.specs.Version.{Spot, Version, On, entry_answers, seen, spot_cmp}
+use Rattle.rc_core.specs.Version.{Spot, Version, On, entry_answers, finding_in, spot_cmp}
 use Rattle.rc_version.specs.Versions.{bytes_at, joined_bytes}
 use Rattle.rc_partition.specs.laws.Lists.{elem-cases, elem-first, elem-later, elem-none}
 use Rattle.rc_memory.specs.Room.{FitTogether, HasRowAt}
@@ -76,11 +76,11 @@ module _ (law : JoinedCoded) where
       subst IsCodedRow (sym (joined_row-cons one (two ∷ rows) h.ascending)) (law one (joined_row (two ∷ rows)) h (together-coded two rows (λ row on. each row (elem-later one row (two ∷ rows) on))))
 
   module _ (x : Pos) (fits : KeyFits x.prefix) where
-    split-coded : (es : List Entry) → AllByRecursion IsCodedEntry es → AllByRecursion IsCodedEntry (split x es)
+    split-coded : (es : List Entry) → AllByRecursion IsCodedEntry es → AllByRecursion IsCodedEntry (gap_split x es)
     split-coded [] h = tt
     split-coded (e ∷ es) h = told (pos_cmp x e.position) (split-coded es h.1)
       where
-        told : (r : Ordering) → AllByRecursion IsCodedEntry (split x es) → AllByRecursion IsCodedEntry (split_by r x e es (split x es))
+        told : (r : Ordering) → AllByRecursion IsCodedEntry (gap_split x es) → AllByRecursion IsCodedEntry (split_by r x e es (gap_split x es))
         told Less k = ((fits, tt), h)
         told Equal k = h
         told Greater k = (h.0, k)
@@ -91,22 +91,22 @@ module _ (law : JoinedCoded) where
       with-coded e h false = h
 
       pub joined-coded : (v : Version) → IsCodedVersion v → IsCodedVersion (row_joined x row v)
-      joined-coded v h = (h.0, all-mapped IsCodedEntry (λ e. cond (eq_by_cmp pos_cmp x e.position) (with_row row e) e) (λ e k. with-coded e k (eq_by_cmp pos_cmp x e.position)) (split x v.entries) (split-coded v.entries h.1))
+      joined-coded v h = (h.0, all-mapped IsCodedEntry (λ e. cond (eq_by_cmp pos_cmp x e.position) (with_row row e) e) (λ e k. with-coded e k (eq_by_cmp pos_cmp x e.position)) (gap_split x v.entries) (split-coded v.entries h.1))
 
       pub on-coded : (j : ℕ) (vs : List Version) → AllByRecursion IsCodedVersion vs → AllByRecursion IsCodedVersion (on_version j (row_joined x row) vs)
       on-coded j vs h = all-on IsCodedVersion (row_joined x row) joined-coded j vs h
 
-      seen_coded : (s : Spot) (es : List Entry) → AllByRecursion IsCodedEntry es → IfSome (seen s es).row IsCodedRow
+      seen_coded : (s : Spot) (es : List Entry) → AllByRecursion IsCodedEntry es → IfSome (finding_in s es).row IsCodedRow
       seen_coded s [] h = tt
       seen_coded s (e ∷ es) h = told (spot_cmp s e.position) (seen_coded s es h.1)
         where
-          told : (r : Ordering) → IfSome (seen s es).row IsCodedRow → IfSome (entry_answers r e (seen s es)).row IsCodedRow
+          told : (r : Ordering) → IfSome (finding_in s es).row IsCodedRow → IfSome (entry_answers r e (finding_in s es)).row IsCodedRow
           told Less k = tt
           told Equal k = h.0.1
           told Greater k = k
 
       pub joined-small : (v : Version) → IsCodedVersion v → joined_bytes x row v ≤ 8952
-      joined-small v h = entry-small x fits (joined_onto (seen (On x) v.entries).row row) (onto-coded (seen (On x) v.entries).row (seen_coded (On x) v.entries h.1) row coded)
+      joined-small v h = entry-small x fits (joined_onto (finding_in (On x) v.entries).row row) (onto-coded (finding_in (On x) v.entries).row (seen_coded (On x) v.entries h.1) row coded)
 
   -- ---- what may be joined fits
 

@@ -15,12 +15,12 @@ use Rattle.rc_core.specs.declared.entries.ChainKind.TheVariants.{Memtable}
 use Rattle.rc_core.specs.declared.entries.Flag.{Flag}
 use Rattle.rc_core.specs.declared.entries.Flag.TheVariants.{Inherit}
 use Rattle.rc_core.specs.Chains.{Shown}
-use Rattle.rc_core.specs.Steps.{free_number, on_version, pin_at, pinned, row_joined, version_of}
+use Rattle.rc_core.specs.Steps.{free_number, on_version, pin_at, pins_with, row_joined, version_of}
 use Rattle.rc_core.specs.Version.{Version}
 use Rattle.rc_version.specs.Versions.{joined_bytes}
 use Rattle.lsa_pool.specs.Room.{spare_of}
-use Rattle.rc_registry.specs.Registry.{put}
-use Rattle.rc_memory.specs.Changes.{FitsChanged, KeepsLast, OfVersion, member}
+use Rattle.rc_registry.specs.Registry.{put_at_number}
+use Rattle.rc_memory.specs.Changes.{FitsChanged, KeepsLast, OfVersion, member_at}
 use Rattle.rc_memory.specs.Kept.{IsSoundChain}
 use Rattle.rc_memory.specs.Recency.{IsLastInner, IsUnderUpdate}
 use Rattle.rc_memory.specs.Room.{FitTogether}
@@ -52,7 +52,7 @@ partition-on old new id f e keeps h =
 
 -- what two functions do alike to the chain that is there
 pub on-alike : (cs : List (Option KeptChain)) (id : ℕ) (k : KeptChain) (f g : Shown → Shown) → slice_index_or cs id None ≡ Some k → f k.chain ≡ g k.chain → on_chain id (on_shown f) cs ≡ on_chain id (on_shown g) cs
-on-alike cs id k f g e same = ap (λ o. put id o cs) (ap (option_map (on_shown f)) e ∙ ap (λ c. Some (record { chain = c; passed = k.passed })) same ∙ sym (ap (option_map (on_shown g)) e))
+on-alike cs id k f g e same = ap (λ o. put_at_number id o cs) (ap (option_map (on_shown f)) e ∙ ap (λ c. Some (record { chain = c; passed = k.passed })) same ∙ sym (ap (option_map (on_shown g)) e))
 
 -- what holds of the chain that is there
 pub partition-at : (m : Memory) (id : ℕ) → IsPartition m id → (k : KeptChain) → chain_at m id ≡ Some k → IsCodedMemtable k.chain
@@ -89,7 +89,7 @@ module _ (law : JoinedCoded) (m : Memory) (id newest : ℕ) (h : IsPartition m i
         (λ k e. fit-coded law (on_version newest (row_joined (row_pos key) row) k.chain.versions) (on-coded law (row_pos key) fits row coded newest k.chain.versions (partition-at m id h k e).coded))
 
     pub join-last : KeepsLast id newest (row_joined (row_pos key) row) m
-    join-last = if-some (λ (k : KeptChain). (v : Version) → IsVersionAt k.chain.versions newest v → IsUnderUpdate k.chain newest → (at : Option Pos) → IsLastInner v at → IsLastInner (row_joined (row_pos key) row v) at ⊎ Contains m.recency (member id newest at)) (chain_at m id)
+    join-last = if-some (λ (k : KeptChain). (v : Version) → IsVersionAt k.chain.versions newest v → IsUnderUpdate k.chain newest → (at : Option Pos) → IsLastInner v at → IsLastInner (row_joined (row_pos key) row v) at ⊎ Contains m.recency (member_at id newest at)) (chain_at m id)
         (λ k e v there under at last. absurd (no_both k.chain.updating (partition-at m id h k e).settled under.0))
 
     -- it is joined as it is said to be
@@ -127,7 +127,7 @@ pub partition-attached : (m : Memory) (id : ℕ) → IsPartition m id → IsSome
 partition-attached m id h = let k = some-and (λ (k : KeptChain). IsCodedMemtable k.chain) (chain_at m id) h in and-some (λ (k : KeptChain). k.chain.attached ≡ true) (chain_at m id) k.0 k.1 k.2.attached
 
 -- a snapshot that was taken is there
-pinned-there : (ps : List (Option ℕ)) (v : ℕ) → IsSome (pin_at (pinned v ps) (free_number ps))
+pinned-there : (ps : List (Option ℕ)) (v : ℕ) → IsSome (pin_at (pins_with v ps) (free_number ps))
 pinned-there [] v = refl
 pinned-there (None ∷ ps) v = refl
 pinned-there (Some p ∷ ps) v = pinned-there ps v
@@ -139,4 +139,4 @@ taken-there old new id pin phase h taken =
     let number : pin ≡ free_number k.chain.pins = subst (λ (o : Option KeptChain). IfSome o (λ q. pin ≡ free_number q.chain.pins)) there.1 taken.number in
     let at : chain_at new id ≡ Some (with_snapshot (snapshot_number k.chain) k) =
     ap (λ (m : Memory). chain_at m id) taken.now ∙ put-at old.chains id (option_map (λ q. with_snapshot (snapshot_number q.chain) q) (chain_at old id)) ∙ ap (option_map (λ q. with_snapshot (snapshot_number q.chain) q)) there.1 in
-    and-some (λ (q : KeptChain). IsSome (pin_at q.chain.pins pin)) (chain_at new id) (with_snapshot (snapshot_number k.chain) k) at (subst (λ n. IsSome (pin_at (pinned (snapshot_number k.chain) k.chain.pins) n)) (sym number) (pinned-there k.chain.pins (snapshot_number k.chain)))
+    and-some (λ (q : KeptChain). IsSome (pin_at q.chain.pins pin)) (chain_at new id) (with_snapshot (snapshot_number k.chain) k) at (subst (λ n. IsSome (pin_at (pins_with (snapshot_number k.chain) k.chain.pins) n)) (sym number) (pinned-there k.chain.pins (snapshot_number k.chain)))

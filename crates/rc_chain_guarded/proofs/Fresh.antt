@@ -16,13 +16,13 @@ use Rattle.rc_core.specs.declared.entries.Entry.{Entry}
 use Rattle.rc_core.specs.declared.entries.Flag.{Flag}
 use Rattle.rc_core.specs.declared.entries.Flag.TheVariants.{Inherit}
 use Rattle.rc_core.specs.AtPlace.{HasEntryAt}
-use Rattle.rc_core.specs.Change.{dummy, mark, split, split_by}
+use Rattle.rc_core.specs.Change.{dummy, gap_split, mark, split_by}
 use Rattle.rc_core.specs.Continuity.{with_entries}
 use Rattle.rc_core.specs.Steps.{join_flagged_statics, on_version, version_of}
 use Rattle.rc_core.specs.Version.{EndsWithDummy, IsVersion, Version, end_position}
 use Rattle.rc_partition.specs.laws.Lists.{elem-first, elem-split}
 use Rattle.rc_memory.specs.Memory.{KeptChain, Member, Memory, HasVersion, IsMemberObject, IsVersionAt, chain_at, on_chain, on_shown, on_version_of}
-use Rattle.rc_memory.specs.Changes.{IsRenewedWhereNone, KeepsLast, OfVersion, member}
+use Rattle.rc_memory.specs.Changes.{IsRenewedWhereNone, KeepsLast, OfVersion, member_at}
 use Rattle.rc_memory.specs.Recency.{HasObject, IsRecency, IsUnderUpdate, MayBeListed, MustBeListed}
 use Rattle.rc_memory.specs.laws.At.{number-low}
 use Rattle.rc_memory.specs.laws.Listed.{one-at}
@@ -65,22 +65,22 @@ module _ (m : Memory) (id j phase : ℕ) (fresh : IsBegun id j phase m) where
       ((found.3.0, found.3.1 ∙ sym (length-on j f k.chain.versions)), (f over, on-at k.chain.versions j over f found.4, refl, (dummy end_position (mark Inherit None), refl)))
 
   -- the dummy that is made first, before the end
-  module _ (x : Pos) (inner : x ≢ end_position) (before : IsBefore x end_position) (n : Memory) (is : n.chains ≡ on_chain id (on_shown (on_version_of j (λ c. with_entries (split x c.entries) c))) m.chains)
-      (renewed : OfVersion m id j (λ k v. IsRenewedWhereNone k.chain.kind v (member id j (Some x)) m.recency n.recency)) where
+  module _ (x : Pos) (inner : x ≢ end_position) (before : IsBefore x end_position) (n : Memory) (is : n.chains ≡ on_chain id (on_shown (on_version_of j (λ c. with_entries (gap_split x c.entries) c))) m.chains)
+      (renewed : OfVersion m id j (λ k v. IsRenewedWhereNone k.chain.kind v (member_at id j (Some x)) m.recency n.recency)) where
     none_there : HasObject over (Some x) → ⊥
     none_there (inl here) = inner (sym here)
     none_there (inr later) = later
 
-    pub fresh-listed : (front : List Member) × (back : List Member) × (n.recency ≡ front ++ (member id j (Some x) ∷ back))
-    fresh-listed = elem-split n.recency (member id j (Some x)) (renewed-here (member id j (Some x)) m.recency n.recency found.0.chain.kind found.2 ((renewed found.0 over found.1 found.4).made none_there))
+    pub fresh-listed : (front : List Member) × (back : List Member) × (n.recency ≡ front ++ (member_at id j (Some x) ∷ back))
+    fresh-listed = elem-split n.recency (member_at id j (Some x)) (renewed-here (member_at id j (Some x)) m.recency n.recency found.0.chain.kind found.2 ((renewed found.0 over found.1 found.4).made none_there))
 
-    split_over : split x over.entries ≡ dummy x (mark Inherit None) ∷ dummy end_position (mark Inherit None) ∷ []
+    split_over : gap_split x over.entries ≡ dummy x (mark Inherit None) ∷ dummy end_position (mark Inherit None) ∷ []
     split_over = ap (λ (r : Ordering). split_by r x (dummy end_position (mark Inherit None)) [] []) before
 
     -- it is the last one, which need not be listed
     pub fresh-free : IsSomeAnd (chain_at n id) (λ k. MustBeListed k.chain j (Some x)) → ⊥
     fresh-free must =
-        let f : Version → Version = λ c. with_entries (split x c.entries) c in let k = found.0 in
+        let f : Version → Version = λ c. with_entries (gap_split x c.entries) c in let k = found.0 in
         let q = from-some (λ (k : KeptChain). MustBeListed k.chain j (Some x)) (chain_at n id) must in
         let here : chain_at n id ≡ Some (on_shown (on_version_of j f) k) = put_here m n id _ is ∙ ap (option_map (on_shown (on_version_of j f))) found.1 in
         let same = same_some q.0 (on_shown (on_version_of j f) k) (sym q.1 ∙ here) in let p = subst (λ (z : KeptChain). MustBeListed z.chain j (Some x)) same q.2 in
@@ -104,9 +104,9 @@ module _ (m : Memory) (id j : ℕ) (row : Row) (lone : IsLone id j row m) where
       ap (λ (w : Version). w.statics) (one-at k.chain.versions j v there.0 number (subst (λ (q : KeptChain). IsVersionAt q.chain.versions j there.0) same there.1)) ∙ there.2
 
   -- what is listed of the version
-  pub lone-none : IsRecency m → ((i l : ℕ) → OfVersion m i l (λ k v. IsVersion v)) → (at : Option Pos) → Contains m.recency (member id j at) → at ≡ None
+  pub lone-none : IsRecency m → ((i l : ℕ) → OfVersion m i l (λ k v. IsVersion v)) → (at : Option Pos) → Contains m.recency (member_at id j at) → at ≡ None
   lone-none rule versions at on =
-      let q = from-some (λ (k : KeptChain). MayBeListed k.chain j at) (chain_at m id) (rule.members (member id j at) on) in let there = alone.3 in
+      let q = from-some (λ (k : KeptChain). MayBeListed k.chain j at) (chain_at m id) (rule.members (member_at id j at) on) in let there = alone.3 in
       let same = same_some q.0 alone.0 (sym q.1 ∙ alone.1) in let p = subst (λ (z : KeptChain). MayBeListed z.chain j at) same q.2 in
       let version : p.version ≡ there.0 = one-at alone.0.chain.versions j p.version there.0 p.number there.1 in
       of at (subst (λ (w : Version). HasObject w at) version p.object) (p.settled alone.2) (versions id j alone.0 there.0 alone.1 there.1)
@@ -121,11 +121,11 @@ lone-same m n id j row same lone = subst (λ cs. IsSomeAnd (slice_index_or cs id
 
 -- the first object of the list, where it is one of the version
 pub home-none : (m : Memory) (r : Ref) (w : Member) (rest : List Member) → m.recency ≡ w ∷ rest → IsMemberObject m r w → (id j : ℕ) (row : Row) → IsLone id j row m → IsRecency m → ((i l : ℕ) → OfVersion m i l (λ k v. IsVersion v)) → w.chain ≡ id → w.version ≡ j
-    → IsMemberObject m r (member id j None)
+    → IsMemberObject m r (member_at id j None)
 home-none m r w rest list here id j row lone rule versions chain version =
-    let is : w ≡ member id j w.position = λ i. record { chain = chain i; version = version i; position = w.position } in
+    let is : w ≡ member_at id j w.position = λ i. record { chain = chain i; version = version i; position = w.position } in
     let at = lone-none m id j row lone rule versions w.position (subst (Contains m.recency) is (subst (λ l. Contains l w) (sym list) (elem-first w rest))) in
-    subst (IsMemberObject m r) (is ∙ ap (member id j) at) here
+    subst (IsMemberObject m r) (is ∙ ap (member_at id j) at) here
 
 -- what is not the end dummy's position stands before it
 pub inner-before : (x : Pos) → x ≢ end_position → IsBefore x end_position

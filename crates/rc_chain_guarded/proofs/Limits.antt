@@ -19,10 +19,10 @@ use Rattle.rc_rowcode.specs.Spelling.{CompFits, EntryFits, KeyFits, RowFits, pos
 use Rattle.rc_rowcode.specs.laws.Sizes.{pos_code_small, row_code_small}
 use Rattle.rc_core.specs.declared.entries.Entry.{Entry}
 use Rattle.rc_core.specs.declared.entries.Flag.{Flag}
-use Rattle.rc_core.specs.Change.{joined_onto, split, with_row}
+use Rattle.rc_core.specs.Change.{gap_split, joined_onto, with_row}
 use Rattle.rc_core.specs.Continuity.{with_entries}
 use Rattle.rc_core.specs.Steps.{join_flagged_statics, join_statics, row_joined, version_of}
-use Rattle.rc_core.specs.Version.{Finding, On, Spot, Version, entry_answers, seen, spot_cmp}
+use Rattle.rc_core.specs.Version.{Finding, On, Spot, Version, entry_answers, finding_in, spot_cmp}
 use Rattle.rc_version.specs.Versions.{bytes_at, joined_bytes}
 use Rattle.rc_partition.specs.laws.Lists.{elem-cases, elem-first, elem-later, elem-mapped, elem-none}
 use Rattle.rc_memory.specs.Room.{FitTogether}
@@ -102,13 +102,13 @@ answered Less e rest h k = tt
 answered Equal e rest h k = h
 answered Greater e rest h k = k
 
-pub seen-fits : (s : Spot) (es : List Entry) → ((e : Entry) → Contains es e → IfSome e.row RowFits) → IfSome (seen s es).row RowFits
+pub seen-fits : (s : Spot) (es : List Entry) → ((e : Entry) → Contains es e → IfSome e.row RowFits) → IfSome (finding_in s es).row RowFits
 seen-fits s [] each = tt
-seen-fits s (e ∷ es) each = answered (spot_cmp s e.position) e (seen s es) (each e (elem-first e es)) (seen-fits s es (λ f on. each f (elem-later e f es on)))
+seen-fits s (e ∷ es) each = answered (spot_cmp s e.position) e (finding_in s es) (each e (elem-first e es)) (seen-fits s es (λ f on. each f (elem-later e f es on)))
 
 -- an entry with a row joined is small
 pub joined-bytes-small : (x : Pos) (row : Row) (v : Version) → KeyFits x.prefix → RowFits row → IsRow row → HasCodedParts v → joined_bytes x row v ≤ 8952
-joined-bytes-small x row v fits k is h = row_at_small x (joined_onto (seen (On x) v.entries).row row) fits (onto_small (seen (On x) v.entries).row row (seen-fits (On x) v.entries h.rows) k is)
+joined-bytes-small x row v fits k is h = row_at_small x (joined_onto (finding_in (On x) v.entries).row row) fits (onto_small (finding_in (On x) v.entries).row row (seen-fits (On x) v.entries h.rows) k is)
 
 pub joined-static-small : (row : Row) (v : Version) → RowFits row → IsRow row → HasCodedParts v → static_size (joined_onto v.statics row) ≤ 8638
 joined-static-small row v k is h = static_at_small (joined_onto v.statics row) (onto_small v.statics row h.statics k is)
@@ -126,8 +126,8 @@ limits-within may v w within fits h = record {
   ] refl;
 }
 
-pub limits-split : (x : Pos) (v : Version) → KeyFits x.prefix → HasCodedParts v → HasCodedParts (with_entries (split x v.entries) v)
-limits-split x v fits = limits-within (λ y. y ≡ x) v (with_entries (split x v.entries) v) (within-split x v) (λ y e. subst (λ (z : Pos). KeyFits z.prefix) (sym e) fits)
+pub limits-split : (x : Pos) (v : Version) → KeyFits x.prefix → HasCodedParts v → HasCodedParts (with_entries (gap_split x v.entries) v)
+limits-split x v fits = limits-within (λ y. y ≡ x) v (with_entries (gap_split x v.entries) v) (within-split x v) (λ y e. subst (λ (z : Pos). KeyFits z.prefix) (sym e) fits)
 
 at_position : (b : Bool) (row : Row) (e : Entry) → KeyFits e.position.prefix → KeyFits (cond b (with_row row e) e).position.prefix
 at_position true row e h = h
@@ -141,8 +141,8 @@ at_row false row e k h = h
 pub limits-joined : (x : Pos) (row : Row) (v : Version) → KeyFits x.prefix → RowFits row → HasCodedParts v → HasCodedParts (row_joined x row v)
 limits-joined x row v fits k h =
     let s = limits-split x v fits h in let g : Entry → Entry = λ e. cond (eq_by_cmp pos_cmp x e.position) (with_row row e) e in record {
-      positions = λ e on. let d = elem-mapped g (split x v.entries) e on in subst (λ (f : Entry). KeyFits f.position.prefix) d.2 (at_position (eq_by_cmp pos_cmp x d.0.position) row d.0 (s.positions d.0 d.1));
-      rows = λ e on. let d = elem-mapped g (split x v.entries) e on in subst (λ (f : Entry). IfSome f.row RowFits) d.2 (at_row (eq_by_cmp pos_cmp x d.0.position) row d.0 k (s.rows d.0 d.1));
+      positions = λ e on. let d = elem-mapped g (gap_split x v.entries) e on in subst (λ (f : Entry). KeyFits f.position.prefix) d.2 (at_position (eq_by_cmp pos_cmp x d.0.position) row d.0 (s.positions d.0 d.1));
+      rows = λ e on. let d = elem-mapped g (gap_split x v.entries) e on in subst (λ (f : Entry). IfSome f.row RowFits) d.2 (at_row (eq_by_cmp pos_cmp x d.0.position) row d.0 k (s.rows d.0 d.1));
       statics = h.statics;
     }
 

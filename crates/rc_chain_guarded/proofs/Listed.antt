@@ -8,7 +8,7 @@ use Rattle.rc_core.specs.declared.entries.ChainKind.{ChainKind}
 use Rattle.rc_core.specs.declared.entries.ChainKind.TheVariants.{Cache, Memtable}
 use Rattle.rc_core.specs.declared.entries.Entry.{Entry}
 use Rattle.rc_core.specs.AtPlace.{HasEntryAt}
-use Rattle.rc_core.specs.Change.{split}
+use Rattle.rc_core.specs.Change.{gap_split}
 use Rattle.rc_core.specs.Continuity.{with_entries}
 use Rattle.rc_core.specs.Steps.{row_joined}
 use Rattle.rc_core.specs.Version.{Ascend, EndsWithDummy, IsVersion, Version, end_position}
@@ -16,7 +16,7 @@ use Rattle.rc_core.specs.laws.Spots.{ascend-tail}
 use Rattle.rc_partition.specs.laws.Lists.{elem-cases, elem-first, elem-here, elem-left, elem-none, elem-replaced}
 use Rattle.rc_memory.specs.Memory.{KeptChain, Member, Memory, HasVersion, chain_at}
 use Rattle.rc_memory.specs.Kept.{IsSoundChain}
-use Rattle.rc_memory.specs.Changes.{IsRenewed, IsRenewedWhereNone, KeepsLast, LastIsListed, OfVersion, member}
+use Rattle.rc_memory.specs.Changes.{IsRenewed, IsRenewedWhereNone, KeepsLast, LastIsListed, OfVersion, member_at}
 use Rattle.rc_memory.specs.Recency.{HasObject, IsLastInner, IsUnderUpdate, MayBeListed, MustBeListed}
 use Rattle.rc_memory.specs.laws.At.{found-version}
 use Rattle.rc_memory.specs.laws.Entries.{before-differs, only-joined, split-has}
@@ -69,30 +69,30 @@ module _ (m n : Memory) (id j : ℕ) (there : HasVersion m id j) where
     cached : (k : KeptChain) → chain_at m id ≡ Some k → IsUnderUpdate k.chain j → k.chain.kind ≡ Cache
     cached k at u = (from-if (λ (k : KeptChain). IsSoundChain k.chain) (chain_at m id) k (sound id) at).cached u.0
 
-    module _ (x : Pos) (renewed : OfVersion m id j (λ k v. IsRenewedWhereNone k.chain.kind v (member id j (Some x)) m.recency n.recency)) where
+    module _ (x : Pos) (renewed : OfVersion m id j (λ k v. IsRenewedWhereNone k.chain.kind v (member_at id j (Some x)) m.recency n.recency)) where
       pub split-listed : KeepsListed m n
-      split-listed i l y inner on = let k = found-version m id j there in where_none-more k.0.chain.kind k.1 (member id j (Some x)) m.recency n.recency (renewed k.0 k.1 k.2 k.3) (member i l (Some y)) on
+      split-listed i l y inner on = let k = found-version m id j there in where_none-more k.0.chain.kind k.1 (member_at id j (Some x)) m.recency n.recency (renewed k.0 k.1 k.2 k.3) (member_at i l (Some y)) on
 
-      pub split-only : KeepsEntries id j (λ (c : Version). with_entries (split x c.entries) c) m n
+      pub split-only : KeepsEntries id j (λ (c : Version). with_entries (gap_split x c.entries) c) m n
       split-only k v y at number on = elim (split-has x y v.entries on) [
         | inl old ↦ inl old
         | inr same ↦ elim (has-decided x v.entries) [
           | inl old ↦ inl (subst (λ z. HasEntryAt z v.entries) (sym same) old)
-          | inr none ↦ inr (λ u. subst (λ z. Contains n.recency (member id j (Some z))) (sym same)
-              (renewed-here (member id j (Some x)) m.recency n.recency k.chain.kind (cached k at u) ((renewed k v at number).made none)))
+          | inr none ↦ inr (λ u. subst (λ z. Contains n.recency (member_at id j (Some z))) (sym same)
+              (renewed-here (member_at id j (Some x)) m.recency n.recency k.chain.kind (cached k at u) ((renewed k v at number).made none)))
         ]
       ]
 
-    module _ (x : Pos) (row : Row) (renewed : OfVersion m id j (λ k v. IsRenewed k.chain.kind (member id j (Some x)) m.recency n.recency)) where
+    module _ (x : Pos) (row : Row) (renewed : OfVersion m id j (λ k v. IsRenewed k.chain.kind (member_at id j (Some x)) m.recency n.recency)) where
       pub joined-only : KeepsEntries id j (row_joined x row) m n
       joined-only k v y at number on = elim (only-joined v x row (Some y) on) [
         | inl old ↦ inl old
-        | inr same ↦ inr (λ u. subst (λ (z : Option Pos). Contains n.recency (member id j z)) (sym same) (renewed-here (member id j (Some x)) m.recency n.recency k.chain.kind (cached k at u) (renewed k v at number)))
+        | inr same ↦ inr (λ u. subst (λ (z : Option Pos). Contains n.recency (member_at id j z)) (sym same) (renewed-here (member_at id j (Some x)) m.recency n.recency k.chain.kind (cached k at u) (renewed k v at number)))
       ]
 
-  module _ (at : Option Pos) (renewed : OfVersion m id j (λ k v. IsRenewed k.chain.kind (member id j at) m.recency n.recency)) where
+  module _ (at : Option Pos) (renewed : OfVersion m id j (λ k v. IsRenewed k.chain.kind (member_at id j at) m.recency n.recency)) where
     pub renewed-listed : KeepsListed m n
-    renewed-listed i l y inner on = let k = found-version m id j there in renewed-more (member id j at) m.recency n.recency k.0.chain.kind (renewed k.0 k.1 k.2 k.3) (member i l (Some y)) on
+    renewed-listed i l y inner on = let k = found-version m id j there in renewed-more (member_at id j at) m.recency n.recency k.0.chain.kind (renewed k.0 k.1 k.2 k.3) (member_at i l (Some y)) on
 
 -- ---- the last entry before the end
 
@@ -120,7 +120,7 @@ last_inner v at is l = (
 module _ (m : Memory) (id : ℕ) (versions : (i l : ℕ) → OfVersion m i l (λ k v. IsVersion v)) where
   pub full-last : IfSome (chain_at m id) (IsListedWhole id m.recency) → LastIsListed id m
   full-last full k j v at there u number l =
-      let e = last_inner v at (versions id j k v there number) l in subst (λ a. Contains m.recency (member id j a)) (sym e.1) (from-if (IsListedWhole id m.recency) (chain_at m id) k full there j v e.0 u number e.2 e.3)
+      let e = last_inner v at (versions id j k v there number) l in subst (λ a. Contains m.recency (member_at id j a)) (sym e.1) (from-if (IsListedWhole id m.recency) (chain_at m id) k full there j v e.0 u number e.2 e.3)
 
 -- so its last entry stays the last one, or is listed
 pub last-keeps : (m : Memory) (id j : ℕ) (f : Version → Version) → IsLastListed id j m → KeepsLast id j f m
@@ -145,8 +145,8 @@ pub end-free : (m : Memory) (id j : ℕ) → IsSomeAnd (chain_at m id) (λ k. Mu
 end-free m id j must = let k = from-some (λ (k : KeptChain). MustBeListed k.chain j (Some end_position)) (chain_at m id) must in k.2.inner refl
 
 -- without an end dummy the list has what it had of other entries
-pub ended-listed : (m n : Memory) (id j : ℕ) (front back : List Member) → m.recency ≡ front ++ (member id j (Some end_position) ∷ back) → n.recency ≡ front ++ back → KeepsListed m n
-ended-listed m n id j front back is list i l x inner on = subst (λ ws. Contains ws (member i l (Some x))) (sym list) (elim (elem-replaced front back (member id j (Some end_position)) (member i l (Some x)) (subst (λ ws. Contains ws (member i l (Some x))) is on)) [
+pub ended-listed : (m n : Memory) (id j : ℕ) (front back : List Member) → m.recency ≡ front ++ (member_at id j (Some end_position) ∷ back) → n.recency ≡ front ++ back → KeepsListed m n
+ended-listed m n id j front back is list i l x inner on = subst (λ ws. Contains ws (member_at i l (Some x))) (sym list) (elim (elem-replaced front back (member_at id j (Some end_position)) (member_at i l (Some x)) (subst (λ ws. Contains ws (member_at i l (Some x))) is on)) [
   | inl same ↦ absurd (inner (sym (same_some end_position x (ap (λ (w : Member). w.position) same))))
   | inr beside ↦ beside
 ])

@@ -8,9 +8,9 @@ use Rattle.rc_core.specs.AtPlace.{HasEntryAt}
 use Rattle.rc_core.specs.Steps.{on_version, pin_at}
 use Rattle.rc_core.specs.Version.{Version, end_position}
 use Rattle.rc_partition.specs.laws.Lists.{elem-cases, elem-first, elem-here, elem-later}
-use Rattle.rc_registry.specs.Registry.{put}
+use Rattle.rc_registry.specs.Registry.{put_at_number}
 use Rattle.rc_memory.specs.Memory.{KeptChain, Memory, HasVersion, IsTold, IsVersionAt, chain_at, on_chain, on_shown, on_version_of}
-use Rattle.rc_memory.specs.Changes.{member}
+use Rattle.rc_memory.specs.Changes.{member_at}
 use Rattle.rc_memory.specs.Recency.{IsUnderUpdate}
 use Rattle.rc_memory.specs.laws.At.{found-version}
 use Rattle.rc_memory.specs.laws.Listed.{one-at}
@@ -51,7 +51,7 @@ module _ (known new : Known) where
 
 -- each entry that was listed is still, but end dummies
 abbrev pub KeepsListed : Memory → Memory → Type 0
-KeepsListed m n = (i l : ℕ) (x : Pos) → x ≢ end_position → Contains m.recency (member i l (Some x)) → Contains n.recency (member i l (Some x))
+KeepsListed m n = (i l : ℕ) (x : Pos) → x ≢ end_position → Contains m.recency (member_at i l (Some x)) → Contains n.recency (member_at i l (Some x))
 
 -- ---- the list alone changed
 
@@ -71,7 +71,7 @@ module _ (m n : Memory) (same : n.chains ≡ m.chains) where
   }
 
   pub known-same : (known : Known) → n.recency ≡ m.recency → IsTracked m known → IsTracked n known
-  known-same known list = known-listed known (λ i j x inner on. subst (λ l. Contains l (member i j (Some x))) (sym list) on)
+  known-same known list = known-listed known (λ i j x inner on. subst (λ l. Contains l (member_at i j (Some x))) (sym list) on)
 
   -- where it is not known what is under update
   pub known-chains : (known : Known) → known.full ≡ None → IsTracked m known → IsTracked n known
@@ -107,7 +107,7 @@ told-same m n (Some id) is = (ap (λ (x : Memory). x.chains) is.1, ap (λ (x : M
 
 -- ---- one chain changed
 
-module _ (m n : Memory) (id : ℕ) (c : Option KeptChain) (is : n.chains ≡ put id c m.chains) where
+module _ (m n : Memory) (id : ℕ) (c : Option KeptChain) (is : n.chains ≡ put_at_number id c m.chains) where
   pub put_here : chain_at n id ≡ c
   put_here = ap (λ cs. slice_index_or cs id None) is ∙ put-at m.chains id c
 
@@ -184,7 +184,7 @@ has-still m n id j f is i l there = some-on m n id (on_shown (on_version_of j f)
 
 -- what is said of the entries of a version, and of those listed at its places
 abbrev pub KeepsEntries : ℕ → ℕ → (Version → Version) → Memory → Memory → Type 0
-KeepsEntries id j f m n = (k : KeptChain) (v : Version) (x : Pos) → chain_at m id ≡ Some k → IsVersionAt k.chain.versions j v → HasEntryAt x (f v).entries → HasEntryAt x v.entries ⊎ (IsUnderUpdate k.chain j → Contains n.recency (member id j (Some x)))
+KeepsEntries id j f m n = (k : KeptChain) (v : Version) (x : Pos) → chain_at m id ≡ Some k → IsVersionAt k.chain.versions j v → HasEntryAt x (f v).entries → HasEntryAt x v.entries ⊎ (IsUnderUpdate k.chain j → Contains n.recency (member_at id j (Some x)))
 
 on_each : (j : ℕ) (f : Version → Version) (vs : List Version) (w : Version) → Contains (on_version j f vs) w → Contains vs w ⊎ ((v : Version) × Contains vs v × (f v ≡ w))
 on_each j f [] w on = inl on
@@ -214,7 +214,7 @@ module _ (m n : Memory) (id j : ℕ) (f : Version → Version) (is : n.chains �
                 let is_v : v ≡ f found.1 = one-at (on_version j f k.chain.versions) j v (f found.1) (subst (λ z. IsVersionAt (on_version j f k.chain.versions) z v) e number) (on-at k.chain.versions j found.1 f version) in
                 elim (only k found.1 x at version (subst (λ (z : Version). HasEntryAt x z.entries) is_v on)) [
                   | inl old ↦ more i l x inner (p l found.1 x under (subst (λ z. IsVersionAt k.chain.versions z found.1) (sym e) version) old inner)
-                  | inr made ↦ subst (Contains n.recency) (λ a. member (sym same a) (sym e a) (Some x)) (made (u.0, ap suc (sym e) ∙ under.1))
+                  | inr made ↦ subst (Contains n.recency) (λ a. member_at (sym same a) (sym e a) (Some x)) (made (u.0, ap suc (sym e) ∙ under.1))
                 ]
             | inr ne ↦ more i l x inner (p l v x under (beside-on k.chain.versions j found.1 f version l v ne number) on inner)
           ]

@@ -21,7 +21,7 @@ use Rattle.std.proofs.Common.{Bool, cond}
 use Rattle.rc_partition.specs.laws.Lists.{elem-cases, elem-first, elem-here, elem-later, elem-left, elem-none, elem-replaced}
 use Rattle.rc_registry.specs.Registry.{AreFree}
 use Rattle.rc_memory.specs.Memory.{KeptChain, Member, Memory, HasPin, HasVersion, IsMemberObject, IsOfVersion, chain_at, listed_as}
-use Rattle.rc_memory.specs.Changes.{member}
+use Rattle.rc_memory.specs.Changes.{member_at}
 use Rattle.rc_chain.specs.Lives.{IsAtUpTo, IsIdle, IsOneFreed, IsRemainder, IsTouched}
 use Rattle.rc_chain_guarded.specs.declared.known.Held.{Held}
 use Rattle.rc_chain_guarded.specs.declared.known.Known.{Known}
@@ -125,13 +125,13 @@ free_decided (None ∷ pins) = elim (free_decided pins) [ inl free ↦ inl (λ j
 free_decided (Some j ∷ pins) = inr (λ free. free j (inl refl))
 
 -- whether something of a chain is in the list
-listed_of : (id : ℕ) (ws : List Member) → ((j : ℕ) (at : Option Pos) → Contains ws (member id j at) → ⊥) ⊎ ((j : ℕ) × (at : Option Pos) × Contains ws (member id j at))
-listed_of id [] = inl (λ j at on. elem-none (member id j at) on)
+listed_of : (id : ℕ) (ws : List Member) → ((j : ℕ) (at : Option Pos) → Contains ws (member_at id j at) → ⊥) ⊎ ((j : ℕ) × (at : Option Pos) × Contains ws (member_at id j at))
+listed_of id [] = inl (λ j at on. elem-none (member_at id j at) on)
 listed_of id (w ∷ ws) = elim (decided w.chain id) [
   | inl same ↦ inr (w.version, w.position, subst (λ i. Contains (w ∷ ws) (record { chain = i; version = w.version; position = w.position })) same (elem-first w ws))
   | inr ne ↦ elim (listed_of id ws) [
-    | inl none ↦ inl (λ j at on. elim (elem-cases w (member id j at) ws on) [ inl same ↦ ne (ap (λ (x : Member). x.chain) same) | inr later ↦ none j at later ])
-    | inr some ↦ inr (some.0, some.1, elem-later w (member id some.0 some.1) ws some.2)
+    | inl none ↦ inl (λ j at on. elim (elem-cases w (member_at id j at) ws on) [ inl same ↦ ne (ap (λ (x : Member). x.chain) same) | inr later ↦ none j at later ])
+    | inr some ↦ inr (some.0, some.1, elem-later w (member_at id some.0 some.1) ws some.2)
   ]
 ]
 
@@ -152,7 +152,7 @@ idle-decided m id k = elim (kind_decided k.chain.kind) [
 
 -- an object went to the back
 pub turned-listed : (m n : Memory) (w : Member) (front back : List Member) → m.recency ≡ front ++ (w ∷ back) → n.recency ≡ (front ++ back) ++ (w ∷ []) → KeepsListed m n
-turned-listed m n w front back is list i l x inner on = subst (λ ws. Contains ws (member i l (Some x))) (sym list) (turned-more front back w (member i l (Some x)) (subst (λ ws. Contains ws (member i l (Some x))) is on))
+turned-listed m n w front back is list i l x inner on = subst (λ ws. Contains ws (member_at i l (Some x))) (sym list) (turned-more front back w (member_at i l (Some x)) (subst (λ ws. Contains ws (member_at i l (Some x))) is on))
 
 -- the first object went to the back
 pub turned : (m n : Memory) (found : Option Ref) (r : Ref) → found ≡ Some r → IfSome found (λ r. (w : Member) × (rest : List Member) × (m.recency ≡ w ∷ rest) × IsMemberObject m r w) → (known : Known) → IsTracked m known
@@ -167,7 +167,7 @@ pub keyed : (m n : Memory) (id pin : ℕ) (x : Pos) → HasPin m id pin
 keyed m n id pin x has touched known h =
     let k = from-some (λ (k : KeptChain). IsSome (pin_at k.chain.pins pin)) (chain_at m id) has in let j = some-number (pin_at k.0.chain.pins pin) k.2 in let t = touched k.0 j.0 k.1 j.1 in
     known-listed m n (ap (λ (y : Memory). y.chains) t.2) known
-    (λ i l y inner on. subst (λ ws. Contains ws (member i l (Some y))) (sym (ap (λ (z : Memory). z.recency) t.2)) (touched-more (IsAtUpTo id j.0 x) m.recency t.0 (member i l (Some y)) t.1 on)) h
+    (λ i l y inner on. subst (λ ws. Contains ws (member_at i l (Some y))) (sym (ap (λ (z : Memory). z.recency) t.2)) (touched-more (IsAtUpTo id j.0 x) m.recency t.0 (member_at i l (Some y)) t.1 on)) h
 
 -- a snapshot is another one than those of a list
 pub others : (one : Held) (held : List Held) → AllByRecursion (IsOther one) held → (other : Held) → Contains held other → IsOther one other

@@ -9,19 +9,19 @@ use Rattle.rc_core.specs.declared.entries.ChainKind.TheVariants.{Cache}
 use Rattle.rc_core.specs.declared.entries.Flag.TheVariants.{Inherit}
 use Rattle.rc_core.specs.AtPlace.{HasEntryAt}
 use Rattle.rc_core.specs.Chains.{Shown}
-use Rattle.rc_core.specs.Steps.{free_number, on_newest, pin_at, pinned, renumbered, version_of, with_phase}
+use Rattle.rc_core.specs.Steps.{free_number, number_after_removal, on_newest, pin_at, pins_with, version_of, with_phase}
 use Rattle.rc_core.specs.Version.{Version}
 use Rattle.rc_core.specs.laws.Pins.{pin-given, pin-is-pinned, pin-kept, pin-others, pin-renumbered}
 use Rattle.rc_partition.specs.laws.Lists.{elem-cases, elem-first, elem-later, elem-none, elem-pushed}
-use Rattle.rc_registry.specs.Registry.{AreFree, put}
+use Rattle.rc_registry.specs.Registry.{AreFree, put_at_number}
 use Rattle.rc_memory.specs.Memory.{KeptChain, Member, Memory, HasChain, HasPin, IsSnapshotTaken, IsVersionAt, chain_at, on_chain, on_shown, shown_with, shown_without, snapshot_number, with_snapshot, without_snapshot}
-use Rattle.rc_memory.specs.Changes.{member}
+use Rattle.rc_memory.specs.Changes.{member_at}
 use Rattle.rc_memory.specs.laws.At.{number-low}
 use Rattle.rc_memory.specs.laws.Places.{same_some}
 use Rattle.rc_memory.specs.laws.Recent.{pushed-at}
 use Rattle.rc_memory.specs.laws.Standing.{at-mapped}
 use Rattle.rc_memory.specs.laws.Versions.{still-at}
-use Rattle.rc_chain.specs.Lives.{chain_of_new, flag_of_new, is_cache, relabelled, with_version_over}
+use Rattle.rc_chain.specs.Lives.{chain_of_new, flag_of_new, is_cache, relabelled_chain, with_version_over}
 use Rattle.rc_chain_guarded.specs.declared.known.Held.{Held}
 use Rattle.rc_chain_guarded.specs.declared.known.Known.{Known}
 use Rattle.rc_chain_guarded.specs.declared.known.Numbered.{Numbered}
@@ -98,7 +98,7 @@ module _ (m n : Memory) (id phase : ℕ) (k : KeptChain) (there : chain_at m id 
 
 -- ---- a chain comes to be, or goes
 
-module _ (m n : Memory) (id : ℕ) (c : Option KeptChain) (is : n.chains ≡ put id c m.chains) where
+module _ (m n : Memory) (id : ℕ) (c : Option KeptChain) (is : n.chains ≡ put_at_number id c m.chains) where
   -- another chain than this one is as it was; of this one no snapshot is held
   pub known-put : (known new : Known) → IsTracked m known → new.held ≡ known.held → new.full ≡ None → ((b : Numbered) → new.bare ≡ Some b → (known.bare ≡ Some b) × (b.chain ≢ id)) → IfSome c HaveCodedParts
       → ((pin : ℕ) → HasPin m id pin → ⊥) → IsTracked n new
@@ -150,12 +150,12 @@ some_mapped f (Some j) h = refl
 module _ (m n : Memory) (id j : ℕ) (is : n.chains ≡ on_chain id (on_shown (shown_without j)) m.chains) where
   pub known-without : (known new : Known) → IsTracked m known → new.held ≡ known.held → new.full ≡ None → ((b : Numbered) → new.bare ≡ Some b → (known.bare ≡ Some b) × (b.chain ≢ id)) → IsTracked n new
   known-without known new h held full bare = known-on m n id (on_shown (shown_without j)) is known new h held (λ k at p v on. p v (elem_taken j k.chain.versions v on))
-      (λ k pin at p. subst IsSome (sym (pin-renumbered j pin k.chain.pins)) (some_mapped (renumbered j) (pin_at k.chain.pins pin) p)) (full-none known new _ full)
+      (λ k pin at p. subst IsSome (sym (pin-renumbered j pin k.chain.pins)) (some_mapped (number_after_removal j) (pin_at k.chain.pins pin) p)) (full-none known new _ full)
       (bare-on m n id (on_shown (shown_without j)) is known new h (λ b e. ((bare b e).0, λ k same at p. absurd ((bare b e).1 same))))
 
 -- ---- each chain has another phase
 
-module _ (m n : Memory) (phase : ℕ) (is : n.chains ≡ list_map (option_map (relabelled phase)) m.chains) where
+module _ (m n : Memory) (phase : ℕ) (is : n.chains ≡ list_map (option_map (relabelled_chain phase)) m.chains) where
   newest_limits : (vs : List Version) → ((v : Version) → Contains vs v → HasCodedParts v) → (v : Version) → Contains (on_newest (with_phase phase) vs) v → HasCodedParts v
   newest_limits [] h v on = h v on
   newest_limits (w ∷ []) h v on = elim (elem-cases _ v [] on) [
@@ -175,14 +175,14 @@ module _ (m n : Memory) (phase : ℕ) (is : n.chains ≡ list_map (option_map (r
   phase_pins true k pin h = h
   phase_pins false k pin h = h
 
-  mapped : (i : ℕ) → chain_at n i ≡ option_map (relabelled phase) (chain_at m i)
-  mapped i = ap (λ cs. slice_index_or cs i None) is ∙ at-mapped (relabelled phase) m.chains i
+  mapped : (i : ℕ) → chain_at n i ≡ option_map (relabelled_chain phase) (chain_at m i)
+  mapped i = ap (λ cs. slice_index_or cs i None) is ∙ at-mapped (relabelled_chain phase) m.chains i
 
-  if_mapped : (o : Option KeptChain) → IfSome o HaveCodedParts → IfSome (option_map (relabelled phase) o) HaveCodedParts
+  if_mapped : (o : Option KeptChain) → IfSome o HaveCodedParts → IfSome (option_map (relabelled_chain phase) o) HaveCodedParts
   if_mapped None h = tt
   if_mapped (Some k) h = phase_limits k.chain.attached k h
 
-  some_pinned : (pin : ℕ) (o : Option KeptChain) → IsSomeAnd o (λ k. IsSome (pin_at k.chain.pins pin)) → IsSomeAnd (option_map (relabelled phase) o) (λ k. IsSome (pin_at k.chain.pins pin))
+  some_pinned : (pin : ℕ) (o : Option KeptChain) → IsSomeAnd o (λ k. IsSome (pin_at k.chain.pins pin)) → IsSomeAnd (option_map (relabelled_chain phase) o) (λ k. IsSome (pin_at k.chain.pins pin))
   some_pinned pin None h = h
   some_pinned pin (Some k) h = phase_pins k.chain.attached k pin h
 
@@ -196,18 +196,18 @@ module _ (m n : Memory) (phase : ℕ) (is : n.chains ≡ list_map (option_map (r
 
 -- ---- snapshots
 
-pinned_still : (version : ℕ) (pins : List (Option ℕ)) (pin : ℕ) → IsSome (pin_at pins pin) → IsSome (pin_at (pinned version pins) pin)
+pinned_still : (version : ℕ) (pins : List (Option ℕ)) (pin : ℕ) → IsSome (pin_at pins pin) → IsSome (pin_at (pins_with version pins) pin)
 pinned_still version pins pin h = elim (decided pin (free_number pins)) [
-  | inl e ↦ subst IsSome (sym (ap (pin_at (pinned version pins)) e ∙ pin-given version pins)) refl
+  | inl e ↦ subst IsSome (sym (ap (pin_at (pins_with version pins)) e ∙ pin-given version pins)) refl
   | inr ne ↦ subst IsSome (sym (pin-others version pins pin ne)) h
 ]
 
 module _ (m n : Memory) (id : ℕ) (g : KeptChain → KeptChain) (is : n.chains ≡ on_chain id g m.chains) (list : n.recency ≡ m.recency) (versions : (k : KeptChain) → (g k).chain.versions ≡ k.chain.versions) (updating : (k : KeptChain) → (g k).chain.updating ≡ k.chain.updating) where
   full_alike : (i : ℕ) → IfSome (chain_at m i) (IsListedWhole i m.recency) → IfSome (chain_at n i) (IsListedWhole i n.recency)
   full_alike i h = if-on m n id g is (IsListedWhole i m.recency) (IsListedWhole i n.recency) i h
-      (λ k same at p j v x u number on inner. subst (λ l. Contains l (member i j (Some x))) (sym list)
+      (λ k same at p j v x u number on inner. subst (λ l. Contains l (member_at i j (Some x))) (sym list)
       (p j v x (sym (updating k) ∙ u.0, u.1 ∙ ap length (versions k)) (subst (λ vs. IsVersionAt vs j v) (versions k) number) on inner))
-      (λ k ne p j v x u number on inner. subst (λ l. Contains l (member i j (Some x))) (sym list) (p j v x u number on inner))
+      (λ k ne p j v x u number on inner. subst (λ l. Contains l (member_at i j (Some x))) (sym list) (p j v x u number on inner))
 
   -- where versions and update of a chain stay, and its snapshots
   pub known-alike : ((k : KeptChain) (pin : ℕ) → chain_at m id ≡ Some k → IsSome (pin_at k.chain.pins pin) → IsSome (pin_at (g k).chain.pins pin)) → (known : Known) → IsTracked m known → IsTracked n known
@@ -235,7 +235,7 @@ taken-there m n id pin phase taken k there =
     let number : pin ≡ free_number k.chain.pins = from-if (λ (q : KeptChain). pin ≡ free_number q.chain.pins) (chain_at m id) k taken.number there in
     let at : chain_at n id ≡ Some (with_snapshot (snapshot_number k.chain) k) = put_here m n id _ (ap (λ (x : Memory). x.chains) taken.now) ∙ ap (option_map (λ (q : KeptChain). with_snapshot (snapshot_number q.chain) q)) there in
     to-some (λ (q : KeptChain). IsSome (pin_at q.chain.pins pin)) (chain_at n id) (with_snapshot (snapshot_number k.chain) k) at
-    (subst (λ i. IsSome (pin_at (pinned (snapshot_number k.chain) k.chain.pins) i)) (sym number) (subst IsSome (sym (pin-given (snapshot_number k.chain) k.chain.pins)) refl))
+    (subst (λ i. IsSome (pin_at (pins_with (snapshot_number k.chain) k.chain.pins) i)) (sym number) (subst IsSome (sym (pin-given (snapshot_number k.chain) k.chain.pins)) refl))
 
 -- one more that is held
 pub known-held : (m : Memory) (known new : Known) (s : Held) → IsTracked m known → new.held.items ≡ known.held.items ++ (s ∷ []) → HasPin m s.chain s.pin → new.full ≡ known.full → new.bare ≡ known.bare → IsTracked m new

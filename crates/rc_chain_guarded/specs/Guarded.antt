@@ -6,7 +6,7 @@ use Rattle.rc_core.specs.declared.entries.Entry.{Entry}
 use Rattle.rc_core.specs.AtPlace.{HasEntryAt}
 use Rattle.rc_core.specs.Version.{Version, end_position}
 use Rattle.rc_memory.specs.Memory.{KeptChain, Member, Memory, HasPin, IsVersionAt, chain_at}
-use Rattle.rc_memory.specs.Changes.{member}
+use Rattle.rc_memory.specs.Changes.{member_at}
 use Rattle.rc_memory.specs.Recency.{IsUnderUpdate}
 use Rattle.rc_chain.specs.Lives.{IsEndAlone}
 use Rattle.rc_chain_guarded.specs.declared.known.Held.{Held}
@@ -24,7 +24,7 @@ HaveCodedParts k = (v : Version) → Contains k.chain.versions v → HasCodedPar
 
 -- each entry of the version of a chain that is under update is in a list, but the end dummy
 abbrev pub IsListedWhole : ℕ → List Member → KeptChain → Type 0
-IsListedWhole id list k = (j : ℕ) (v : Version) (x : Pos) → IsUnderUpdate k.chain j → IsVersionAt k.chain.versions j v → HasEntryAt x v.entries → x ≢ end_position → Contains list (member id j (Some x))
+IsListedWhole id list k = (j : ℕ) (v : Version) (x : Pos) → IsUnderUpdate k.chain j → IsVersionAt k.chain.versions j v → HasEntryAt x v.entries → x ≢ end_position → Contains list (member_at id j (Some x))
 
 -- of a version of a chain its end dummy alone is left
 abbrev pub HasBare : ℕ → KeptChain → Type 0

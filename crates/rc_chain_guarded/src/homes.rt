@@ -5,7 +5,7 @@ ghost use Rattle.lsa_pool.specs.Room.{spare_of};
 ghost use Rattle.lsa_region.specs.Region.{body};
 ghost use Rattle.rc_rowcode.specs.Spelling.{KeyFits};
 ghost use Rattle.rc_memory.specs.Memory.{HasVersion, IsMemberObject};
-ghost use Rattle.rc_memory.specs.Changes.{LastIsListed, member};
+ghost use Rattle.rc_memory.specs.Changes.{LastIsListed, member_at};
 ghost use Rattle.rc_chain_guarded.specs.Guarded.{IsTracked};
 ghost use Rattle.rc_chain_guarded.specs.calls.Inner.{IsKnownBeside, IsLastListed};
 
@@ -109,7 +109,7 @@ pub(crate) fn object_at(
     requires known { IsTracked chains.old known.old }
     requires limits { KeyFits x.now.prefix }
     ensures known { IsTracked chains.new known.new }
-    ensures here { IfSome result (λ r. IsMemberObject chains.new r (member at.chain at.version (Some x.now))) }
+    ensures here { IfSome result (λ r. IsMemberObject chains.new r (member_at at.chain at.version (Some x.now))) }
     ensures there { IfSome result (λ r. HasVersion chains.new at.chain at.version) }
     ensures beside { IfSome result (λ r. IsKnownBeside at.chain at.version known.new known.new) }
     ensures room { IfSome result (λ r. 30000 ≤ spare_of 131072 chains.new.region.usages) }

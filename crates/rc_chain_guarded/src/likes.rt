@@ -5,7 +5,7 @@ ghost use Rattle.lsa_pool.specs.Room.{spare_of};
 ghost use Rattle.rc_cell.specs.declared.rows.Row.{Row as Joined};
 ghost use Rattle.rc_rowcode.specs.Spelling.{KeyFits, RowFits};
 ghost use Rattle.rc_memory.specs.Memory.{Member, IsMemberObject};
-ghost use Rattle.rc_memory.specs.Changes.{member};
+ghost use Rattle.rc_memory.specs.Changes.{member_at};
 ghost use Rattle.rc_chain_guarded.specs.Guarded.{IsTracked};
 ghost use Rattle.rc_chain_guarded.specs.calls.Inner.{IsLone};
 
@@ -85,7 +85,7 @@ fn first_of(chains: &mut Chains<SEGMENT>, _row: &Row, id: u64, number: u64) -> O
     requires { IsLone id number _row.now chains.old }
     ensures chains { chains.new.chains ≡ chains.old.chains }
     ensures usages { chains.new.region.usages ≡ chains.old.region.usages }
-    ensures first { IfSome result (λ p. IsMemberObject chains.new p.0 (member id number None)) }
+    ensures first { IfSome result (λ p. IsMemberObject chains.new p.0 (member_at id number None)) }
 {
     for turns in 0..chains.region().objects() {
         match chains.front() {
@@ -104,7 +104,7 @@ fn first_of(chains: &mut Chains<SEGMENT>, _row: &Row, id: u64, number: u64) -> O
 // Whether the first object of the list is one of a version.
 fn is_home(chains: &Chains<SEGMENT>, r: Ref, id: u64, number: u64) -> bool
     requires { (w : Member) × (rest : Sequence Member) × (chains.now.recency ≡ w ∷ rest) × IsMemberObject chains.now r w }
-    ensures { (row : Joined) → result ≡ true → IsLone id number row chains.now → IsMemberObject chains.now r (member id number None) }
+    ensures { (row : Joined) → result ≡ true → IsLone id number row chains.now → IsMemberObject chains.now r (member_at id number None) }
 {
     chains.known();
     let (chain, version) = chains.home(r);

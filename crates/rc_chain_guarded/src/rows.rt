@@ -3,12 +3,12 @@
 ghost use Rattle.std.specs.Prelude.{◌≡◌, ◌≤◌, Some, IfSome};
 ghost use Rattle.rc_cell.specs.declared.rows.Row.{Row as Joined};
 ghost use Rattle.rc_cell.specs.Winner.{IsRow};
-ghost use Rattle.rc_core.specs.Version.{On, seen};
+ghost use Rattle.rc_core.specs.Version.{On, finding_in};
 ghost use Rattle.lsa_pool.specs.Room.{spare_of};
 ghost use Rattle.rc_position.specs.Position.{IsBefore, row_pos};
 ghost use Rattle.rc_rowcode.specs.Spelling.{KeyFits, RowFits};
 ghost use Rattle.rc_memory.specs.Memory.{IsMemberObject};
-ghost use Rattle.rc_memory.specs.Changes.{OfVersion, member};
+ghost use Rattle.rc_memory.specs.Changes.{OfVersion, member_at};
 ghost use Rattle.rc_chain_guarded.specs.Guarded.{IsTracked};
 
 use crate::homes::{SEGMENT, has_room, has_version, may_join, may_make};
@@ -32,9 +32,9 @@ pub fn join_row(
     requires key { KeyFits key.now }
     requires row { RowFits row.now }
     ensures known { IsTracked chains.new known.new }
-    ensures row { IfSome result (λ r. (joined : Joined) × RowFits joined × IsRow joined × OfVersion chains.new at.chain at.version (λ k v. (seen (On (row_pos key.now)) v.entries).row ≡ Some joined)) }
+    ensures row { IfSome result (λ r. (joined : Joined) × RowFits joined × IsRow joined × OfVersion chains.new at.chain at.version (λ k v. (finding_in (On (row_pos key.now)) v.entries).row ≡ Some joined)) }
     ensures room { IfSome result (λ r. 30000 ≤ spare_of 131072 chains.new.region.usages) }
-    ensures here { IfSome result (λ r. IsMemberObject chains.new r (member at.chain at.version (Some (row_pos key.now)))) }
+    ensures here { IfSome result (λ r. IsMemberObject chains.new r (member_at at.chain at.version (Some (row_pos key.now)))) }
 {
     if !has_room(chains, known) {
         return None;

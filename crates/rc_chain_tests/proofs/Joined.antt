@@ -12,7 +12,7 @@ use Rattle.lsa_region.specs.Region.{View, body}
 use Rattle.rc_core.specs.Change.{dummy, joined_onto, mark}
 use Rattle.rc_core.specs.declared.entries.Flag.{Flag}
 use Rattle.rc_core.specs.Steps.{version_of}
-use Rattle.rc_core.specs.Version.{On, end_position, entry_answers, found, seen}
+use Rattle.rc_core.specs.Version.{On, end_position, entry_answers, finding_in, finding_of}
 use Rattle.rc_object.specs.Objects.{HasRoomFor, entry_length}
 use Rattle.rc_version.specs.Versions.{IsVersionOf, IsPartOf, IsUnlisted, CanJoin, bytes_at}
 
@@ -23,8 +23,8 @@ key_before_end [] = refl
 key_before_end (c ∷ key) = refl
 
 -- no row is seen
-none_seen : (key : List Comp) (flag : Flag) → seen (On (row_pos key)) (dummy end_position (mark flag None) ∷ []) ≡ found (mark flag None) None
-none_seen key flag = ap (λ r. entry_answers r (dummy end_position (mark flag None)) (seen (On (row_pos key)) [])) (key_before_end key)
+none_seen : (key : List Comp) (flag : Flag) → finding_in (On (row_pos key)) (dummy end_position (mark flag None) ∷ []) ≡ finding_of (mark flag None) None
+none_seen key flag = ap (λ r. entry_answers r (dummy end_position (mark flag None)) (finding_in (On (row_pos key)) [])) (key_before_end key)
 
 -- sizes that were computed and compared
 pub record IsMeasured (v : View) (key : List Comp) (row : Row) (size spare space : ℕ) : Type 0 where

@@ -5,6 +5,7 @@
 mod asking;
 mod both;
 mod chance;
+mod plain_calls;
 mod space;
 mod tally;
 mod turning;

@@ -22,9 +22,9 @@ use Rattle.rc_core.specs.declared.entries.Flag.TheVariants.{Known, Unknown, Inhe
 use Rattle.rc_core.specs.declared.parts.Part.{Part}
 use Rattle.rc_core.specs.declared.parts.Part.TheVariants.{Row, Gap, Missing, End}
 use Rattle.rc_core.specs.SpotState.{SpotState, over, through}
-use Rattle.rc_core.specs.Version.{Spot, On, Behind, gap_ordering, Version, state_at, state_of, entry_answers, seen, spot_cmp}
+use Rattle.rc_core.specs.Version.{Spot, On, Behind, gap_ordering, Version, state_at, state_of, entry_answers, finding_in, spot_cmp}
 use Rattle.rc_core.specs.Change.{position_of}
-use Rattle.rc_core.specs.Chain.{flagged, content, states_at, IsBare, IsKnown, IsEvenAt}
+use Rattle.rc_core.specs.Chain.{has_flag, content, states_at, IsBare, IsKnown, IsEvenAt}
 use Rattle.rc_core.specs.Continuity.{EachOf, IsContinuous}
 use Rattle.rc_core.specs.AtPlace.{HasEntryAt}
 use Rattle.rc_core.specs.Parts.{IsClear, SomeHasEntryAt, IsReach, IsFirstPart}
@@ -53,18 +53,18 @@ sooner y to q Less e off l = absurd (off refl)
 sooner y to q Equal e off l = subst (λ z. pos_cmp y z ≡ Less) (sym (pos_cmp_same q to e)) l
 sooner y to q Greater e off l = pos_cmp_total.trans y to q l (turn_to q to Greater e)
 
-seen_in_gap : (x to : Pos) (s : Spot) (es : List Entry) → InGap x to s → IsClear x to es → seen s es ≡ seen (Behind x) es
+seen_in_gap : (x to : Pos) (s : Spot) (es : List Entry) → InGap x to s → IsClear x to es → finding_in s es ≡ finding_in (Behind x) es
 seen_in_gap x to s [] g c = refl
-seen_in_gap x to s (e ∷ es) g c = elim (pos_cmp x e.position) as (λ r. pos_cmp x e.position ≡ r → entry_answers (spot_cmp s e.position) e (seen s es) ≡ entry_answers (gap_ordering r) e (seen (Behind x) es)) [
-  | Less ↦ λ l. ap (λ r. entry_answers r e (seen s es)) (Less-spot s e.position (sooner (position_of s) to e.position (pos_cmp e.position to) refl (c.0 l) g.1))
-  | Equal ↦ λ l. ap (λ r. entry_answers r e (seen s es)) (further s x e.position Equal l (λ h. let u : Equal ≡ Less = h in cc) g.0) ∙ seen_in_gap x to s es g c.1
-  | Greater ↦ λ l. ap (λ r. entry_answers r e (seen s es)) (further s x e.position Greater l (λ h. let u : Greater ≡ Less = h in cc) g.0) ∙ seen_in_gap x to s es g c.1
+seen_in_gap x to s (e ∷ es) g c = elim (pos_cmp x e.position) as (λ r. pos_cmp x e.position ≡ r → entry_answers (spot_cmp s e.position) e (finding_in s es) ≡ entry_answers (gap_ordering r) e (finding_in (Behind x) es)) [
+  | Less ↦ λ l. ap (λ r. entry_answers r e (finding_in s es)) (Less-spot s e.position (sooner (position_of s) to e.position (pos_cmp e.position to) refl (c.0 l) g.1))
+  | Equal ↦ λ l. ap (λ r. entry_answers r e (finding_in s es)) (further s x e.position Equal l (λ h. let u : Equal ≡ Less = h in cc) g.0) ∙ seen_in_gap x to s es g c.1
+  | Greater ↦ λ l. ap (λ r. entry_answers r e (finding_in s es)) (further s x e.position Greater l (λ h. let u : Greater ≡ Less = h in cc) g.0) ∙ seen_in_gap x to s es g c.1
 ] refl
 
 -- over a gap no version holds a row
-no_row_behind : (x : Pos) (es : List Entry) → (seen (Behind x) es).row ≡ None
+no_row_behind : (x : Pos) (es : List Entry) → (finding_in (Behind x) es).row ≡ None
 no_row_behind x [] = refl
-no_row_behind x (e ∷ es) = elim (pos_cmp x e.position) as (λ r. (entry_answers (gap_ordering r) e (seen (Behind x) es)).row ≡ None) [ Less ↦ refl | Equal ↦ no_row_behind x es | Greater ↦ no_row_behind x es ]
+no_row_behind x (e ∷ es) = elim (pos_cmp x e.position) as (λ r. (entry_answers (gap_ordering r) e (finding_in (Behind x) es)).row ≡ None) [ Less ↦ refl | Equal ↦ no_row_behind x es | Greater ↦ no_row_behind x es ]
 
 no_rows_over : (f : Flag) (a b : SpotState) → a.rows ≡ [] → b.rows ≡ [] → (over f a b).rows ≡ []
 no_rows_over Known a b e h = h
@@ -114,7 +114,7 @@ module _ (kind : ChainKind) (versions : List Version) (x upto to : Pos) (tomb : 
       let same = states_in_gap x to (On y) versions on reach.clear in
       let same_gap = states_in_gap x to (Behind y) versions gap reach.clear in (
         ap content same ∙ bare_gap x versions ∙ (λ i. (empty_row, (sym (even bare known) ∙ tomb_is) i)),
-        record { at = ap (flagged kind) same ∙ known.gap bare; gap = λ _. ap (flagged kind) same_gap ∙ known.gap bare },
+        record { at = ap (has_flag kind) same ∙ known.gap bare; gap = λ _. ap (has_flag kind) same_gap ∙ known.gap bare },
       )
 
   pub gap-seen : (y : Pos) → covers x to y ≡ true → SeenAt kind versions tomb y

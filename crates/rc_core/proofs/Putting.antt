@@ -15,7 +15,7 @@ use Rattle.rc_core.specs.SpotState.{over, under}
 use Rattle.rc_core.specs.Change.{mark, lost_mark, lose_first_gap}
 use Rattle.rc_core.specs.Merge.{Alike}
 use Rattle.rc_core.specs.Plain.{mark_state}
-use Rattle.rc_core.specs.Steps.{released}
+use Rattle.rc_core.specs.Steps.{pins_without}
 use Rattle.rc_core.specs.laws.Losing.{tomb-alone}
 
 put_tomb : (s t u : Option Tomb) → u ≡ greater tomb_cmp s t → greatest tomb_cmp (option_to_list u) ≡ greatest tomb_cmp (option_to_list s ++ option_to_list t)
@@ -50,7 +50,7 @@ dropped_left xs ys i r d m e s l lt h =
 
 -- ---- a pin released
 
-pub released_is : (pins : List (Option ℕ)) (i : ℕ) → i < length pins → slice_set pins i None ≡ released i pins
+pub released_is : (pins : List (Option ℕ)) (i : ℕ) → i < length pins → slice_set pins i None ≡ pins_without i pins
 released_is [] i l = absurd (omega (arith, l))
 released_is (p ∷ ps) zero l = refl
 released_is (p ∷ ps) (suc i) l = ap (λ xs. p ∷ xs) (released_is ps i (omega (arith, l)))

@@ -19,9 +19,9 @@ use Rattle.std.specs.declared.cmp.Ordering.TheVariants.{Less, Equal}
 use Rattle.rc_core.specs.declared.entries.Flag.{Flag}
 use Rattle.rc_core.specs.declared.entries.Flag.TheVariants.{Known, Unknown, Inherit}
 use Rattle.rc_core.specs.SpotState.{SpotState, spot_state, silent, over, under, through, joined_state}
-use Rattle.rc_core.specs.Chain.{decides, states_at, content, flagged, flag_over, IsBare, IsKnown}
+use Rattle.rc_core.specs.Chain.{decides, states_at, content, has_flag, flag_over, IsBare, IsKnown}
 use Rattle.rc_core.specs.Merge.{Alike}
-use Rattle.rc_core.specs.Version.{Spot, On, Behind, Version, state_of, entry_answers, found, seen, spot_cmp, end_position}
+use Rattle.rc_core.specs.Version.{Spot, On, Behind, Version, state_of, entry_answers, finding_of, finding_in, spot_cmp, end_position}
 use Rattle.rc_core.specs.declared.entries.Entry.{Entry}
 use Rattle.rc_core.specs.declared.entries.ChainKind.{ChainKind}
 use Rattle.rc_core.specs.declared.slow.PlainVersion.{PlainVersion}
@@ -109,11 +109,11 @@ row_over below marked joined Unknown rows tombs a b = (b.0 ∙ a.0, b.1 ∙ row_
 row_over below marked joined Inherit rows tombs a b = (b.0 ∙ a.0, b.1 ∙ row_said marked (spot_state below.flag (below.rows ++ []) (below.tombs ++ tombs)) rows a.1 ∙ (λ i. (joined_row (append-nil below.rows i ++ rows), greatest tomb_cmp (below.tombs ++ tombs))))
 
 -- the entry at the place answers
-pub over_here : (below joined : SpotState) (s : Spot) (left all : List Entry) (first : Entry) → 1 ≤ length left → first ≡ get_or left 0 first → spot_cmp s first.position ≡ Equal → seen s left ≡ seen s all →
-    Alike joined (under below (state_of (found first.at first.row))) → Alike joined (under below (state_of (seen s all)))
+pub over_here : (below joined : SpotState) (s : Spot) (left all : List Entry) (first : Entry) → 1 ≤ length left → first ≡ get_or left 0 first → spot_cmp s first.position ≡ Equal → finding_in s left ≡ finding_in s all →
+    Alike joined (under below (state_of (finding_of first.at first.row))) → Alike joined (under below (state_of (finding_in s all)))
 over_here below joined s [] all first l e c h a = absurd (omega (arith, l))
 over_here below joined s (x ∷ xs) all first l e c h a =
-    subst (λ f. Alike joined (under below (state_of f))) (sym (ap (λ r. entry_answers r x (seen s xs)) (sym (ap (λ (y : Entry). spot_cmp s y.position) e) ∙ c) ∙ ap (λ (y : Entry). found y.at y.row) (sym e)) ∙ h) a
+    subst (λ f. Alike joined (under below (state_of f))) (sym (ap (λ r. entry_answers r x (finding_in s xs)) (sym (ap (λ (y : Entry). spot_cmp s y.position) e) ∙ c) ∙ ap (λ (y : Entry). finding_of y.at y.row) (sym e)) ∙ h) a
 
 pub laid_next : (seen next : SpotState) (f : Version → SpotState) (left : List PlainVersion) (first : PlainVersion) (all : SpotState) → 1 ≤ length left → first ≡ get_or left 0 first → Alike next (under seen (f (plain first))) →
     Alike (under seen (through (list_map f (list_map plain left)))) all → Alike (under next (through (list_map f (list_map plain (take (length left - 1) (drop 1 left)))))) all
@@ -151,16 +151,16 @@ content_of seen row tomb cs a e f = (λ i. (e i, (f ∙ sym (tomb-alone seen.tom
 
 -- ---- what is known
 
-pub is_flagged : (kind : ChainKind) (cs : List SpotState) (f : Flag) (b : Bool) → b ≡ flag_over kind f → f ≡ (through cs).flag → b ≡ flagged kind cs
+pub is_flagged : (kind : ChainKind) (cs : List SpotState) (f : Flag) (b : Bool) → b ≡ flag_over kind f → f ≡ (through cs).flag → b ≡ has_flag kind cs
 is_flagged kind cs f b e h = e ∙ ap (flag_over kind) h ∙ sym (flagged-through kind cs)
 
-pub not_known : (kind : ChainKind) (versions : List Version) (x : Pos) (b : Bool) → b ≡ flagged kind (states_at (On x) versions) → b ≡ false → (IsTrue false → IsKnown kind versions x) × (IsKnown kind versions x → IsTrue false)
+pub not_known : (kind : ChainKind) (versions : List Version) (x : Pos) (b : Bool) → b ≡ has_flag kind (states_at (On x) versions) → b ≡ false → (IsTrue false → IsKnown kind versions x) × (IsKnown kind versions x → IsTrue false)
 not_known kind versions x b e h = (λ u. absurd (cc), λ k. sym h ∙ e ∙ k.at)
 
-pub known_with_row : (kind : ChainKind) (versions : List Version) (x : Pos) (b : Bool) → b ≡ flagged kind (states_at (On x) versions) → b ≡ true → (IsBare versions x → ⊥) → (IsTrue true → IsKnown kind versions x) × (IsKnown kind versions x → IsTrue true)
+pub known_with_row : (kind : ChainKind) (versions : List Version) (x : Pos) (b : Bool) → b ≡ has_flag kind (states_at (On x) versions) → b ≡ true → (IsBare versions x → ⊥) → (IsTrue true → IsKnown kind versions x) × (IsKnown kind versions x → IsTrue true)
 known_with_row kind versions x b e h off = (λ _. record { at = sym e ∙ h; gap = λ bare. absurd (off bare) }, λ _. refl)
 
-pub known_with_gap : (kind : ChainKind) (versions : List Version) (x : Pos) (b g : Bool) → b ≡ flagged kind (states_at (On x) versions) → b ≡ true → IsBare versions x → g ≡ flagged kind (states_at (Behind x) versions) → (IsTrue g → IsKnown kind versions x) × (IsKnown kind versions x → IsTrue g)
+pub known_with_gap : (kind : ChainKind) (versions : List Version) (x : Pos) (b g : Bool) → b ≡ has_flag kind (states_at (On x) versions) → b ≡ true → IsBare versions x → g ≡ has_flag kind (states_at (Behind x) versions) → (IsTrue g → IsKnown kind versions x) × (IsKnown kind versions x → IsTrue g)
 known_with_gap kind versions x b g e h bare d = (λ t. record { at = sym e ∙ h; gap = λ _. sym d ∙ t }, λ k. d ∙ k.gap bare)
 
 -- a row is seen, where what is seen is not empty

@@ -1,7 +1,7 @@
 -- What is seen through a chain of versions, as a reader believes it. Each definition is of the states that the versions up to a pinned one
 -- answer at a place, the oldest first.
 --     base             the newest version whose flag there is not Inherit
---     flagged          the base's flag is Known; without a base, the chain is a memtable's
+--     has_flag         the base's flag is Known; without a base, the chain is a memtable's
 --     content          the join of what the versions from the base on hold there; without a base, of all
 --     IsBare           a clustered position with no row in what is seen
 --     IsKnown          flagged and, at a bare position, the open gap behind it flagged too: the gap's base is the base at the spot behind
@@ -64,8 +64,8 @@ flagged_from kind (Some i) states = is_known (first_flag (drop i states))
 flagged_from kind None states = below_oldest kind
 
 -- a place is flagged, by the states of the versions there
-abbrev pub flagged : ChainKind → List SpotState → Bool
-flagged kind states = flagged_from kind (base states) states
+abbrev pub has_flag : ChainKind → List SpotState → Bool
+has_flag kind states = flagged_from kind (base states) states
 
 -- the rows that the versions from the base on hold there
 abbrev pub rows_from : List SpotState → List Row
@@ -98,8 +98,8 @@ pub record IsBare (versions : List Version) (x : Pos) : Type 0 where
 
 -- a clustered position is known
 pub record IsKnown (kind : ChainKind) (versions : List Version) (x : Pos) : Type 0 where
-  pub at : IsTrue (flagged kind (states_at (On x) versions))
-  pub gap : IsBare versions x → IsTrue (flagged kind (states_at (Behind x) versions))
+  pub at : IsTrue (has_flag kind (states_at (On x) versions))
+  pub gap : IsBare versions x → IsTrue (has_flag kind (states_at (Behind x) versions))
 
 -- the tombstone at a bare position is that of the gap behind it
 abbrev pub IsEvenAt : ChainKind → List Version → Pos → Type 0

@@ -1,5 +1,5 @@
 -- What is done to the entries of one version.
---     split        a dummy at a position with what the gap there says, where no entry stands
+--     gap_split    a dummy at a position with what the gap there says, where no entry stands
 --     change       a function on the flag and tombstone of each spot from one position on and before another
 --     join_row_at  a row joined at a position
 --     mark_at      the flag and tombstone at a position
@@ -39,9 +39,9 @@ split_by Equal x e es rest = e ∷ es
 split_by Greater x e es rest = e ∷ rest
 
 -- a dummy at a position, where no entry stands there, with what the gap there says
-abbrev pub split : Pos → List Entry → List Entry
-split x [] = []
-split x (e ∷ es) = split_by (pos_cmp x e.position) x e es (split x es)
+abbrev pub gap_split : Pos → List Entry → List Entry
+gap_split x [] = []
+gap_split x (e ∷ es) = split_by (pos_cmp x e.position) x e es (gap_split x es)
 
 -- ---- change
 
@@ -52,8 +52,8 @@ position_of (Behind x) = x
 
 -- what an entry says itself changes where it stands from `from` on and before `to`, and what the gap before it says where that gap
 -- lies between them
-abbrev pub changed : (Mark → Mark) → Pos → Pos → Entry → Entry
-changed f from to e = record {
+abbrev pub entry_changed : (Mark → Mark) → Pos → Pos → Entry → Entry
+entry_changed f from to e = record {
   position = e.position;
   row = e.row;
   at = cond (covers from to e.position) (f e.at) e.at;
@@ -62,7 +62,7 @@ changed f from to e = record {
 
 -- a function on the mark of each spot from one position on and before another
 abbrev pub change : (Mark → Mark) → Pos → Pos → List Entry → List Entry
-change f from to es = list_map (changed f from to) (split to (split from es))
+change f from to es = list_map (entry_changed f from to) (gap_split to (gap_split from es))
 
 -- the flag stays, and of the tombstones the greater
 abbrev pub raised_mark : Option Tomb → Mark → Mark
@@ -101,7 +101,7 @@ at_entry x f es = list_map (λ e. cond (eq_by_cmp pos_cmp x e.position) (f e) e)
 
 -- a row joined at its position
 abbrev pub join_row_at : Pos → Row → List Entry → List Entry
-join_row_at x row es = at_entry x (with_row row) (split x es)
+join_row_at x row es = at_entry x (with_row row) (gap_split x es)
 
 -- a row filled: it is joined, its position is known, and its tombstone joined
 abbrev pub known_with : Option Tomb → Mark → Mark

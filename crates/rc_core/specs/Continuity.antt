@@ -22,7 +22,7 @@ use Rattle.rc_core.specs.declared.entries.Flag.TheVariants.{Known, Unknown}
 use Rattle.rc_core.specs.SpotState.{SpotState, through}
 use Rattle.rc_core.specs.Version.{Spot, On, Version, state_at, static_state}
 use Rattle.rc_core.specs.Change.{joined_onto}
-use Rattle.rc_core.specs.Chain.{flagged, content, states_at, IsEvenAt}
+use Rattle.rc_core.specs.Chain.{has_flag, content, states_at, IsEvenAt}
 
 -- the rows and tombstones of a state, joined into the source, leave it as it is
 abbrev pub IsWithin : SpotState → Row × Option Tomb → Type 0
@@ -54,8 +54,8 @@ Reached (Some p) x = place_cmp x p ≡ Less
 -- `reach` is the place of the update, of a version under update, and None of every other
 pub record IsContinuous (reach : Option Place) (writes : List Mutation) (versions : List Version) : Type 0 where
   pub within : HoldNoMore writes versions
-  pub statics : Reached reach Static → IsTrue (flagged Cache (static_states versions)) → content (static_states versions) ≡ (source_at_static writes, None)
-  pub clustered : (x : Pos) → Reached reach (Clustered x) → IsTrue (flagged Cache (states_at (On x) versions)) → content (states_at (On x) versions) ≡ source_at writes x
+  pub statics : Reached reach Static → IsTrue (has_flag Cache (static_states versions)) → content (static_states versions) ≡ (source_at_static writes, None)
+  pub clustered : (x : Pos) → Reached reach (Clustered x) → IsTrue (has_flag Cache (states_at (On x) versions)) → content (states_at (On x) versions) ≡ source_at writes x
   pub head : Reached reach Head → greatest tomb_cmp (version_tombs versions) ≡ source_at_head writes
   pub even : (x : Pos) → Reached reach (Clustered x) → IsEvenAt Cache versions x
 

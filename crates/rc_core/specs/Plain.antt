@@ -13,7 +13,7 @@ use Rattle.rc_core.specs.declared.entries.Flag.{Flag}
 use Rattle.rc_core.specs.declared.entries.Flag.TheVariants.{Known, Unknown, Inherit}
 use Rattle.rc_core.specs.declared.entries.Mark.{Mark}
 use Rattle.rc_core.specs.SpotState.{SpotState, spot_state}
-use Rattle.rc_core.specs.Version.{Finding, found, Version}
+use Rattle.rc_core.specs.Version.{Finding, finding_of, Version}
 use Rattle.rc_core.specs.Change.{mark}
 use Rattle.rc_core.specs.Continuity.{joined_options}
 
@@ -40,7 +40,7 @@ row_under Inherit older newer = joined_options older newer
 
 -- what one version says of a spot, under what a newer one says of it
 abbrev pub found_under : Finding → Finding → Finding
-found_under older newer = found (mark_under older.mark newer.mark) (row_under newer.mark.flag older.row newer.row)
+found_under older newer = finding_of (mark_under older.mark newer.mark) (row_under newer.mark.flag older.row newer.row)
 
 -- a flag that says nothing, and no tombstone
 abbrev pub no_mark : Mark

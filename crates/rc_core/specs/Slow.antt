@@ -7,7 +7,7 @@ use Rattle.rc_core.specs.declared.slow.PlainVersion.{PlainVersion}
 use Rattle.rc_core.specs.declared.slow.Seen.{Seen}
 use Rattle.rc_core.specs.declared.slow.Side.{Side}
 use Rattle.rc_core.specs.declared.slow.Side.TheVariants as side
-use Rattle.rc_core.specs.Chain.{IsKnown, flagged, states_at}
+use Rattle.rc_core.specs.Chain.{IsKnown, has_flag, states_at}
 use Rattle.rc_core.specs.SpotState.{SpotState, spot_state}
 use Rattle.rc_core.specs.Version.{Spot, On, Behind, Version}
 
@@ -26,4 +26,4 @@ seen_state s = spot_state s.flag (s.row ∷ []) (option_to_list s.tomb)
 
 -- what is answered of a position by what is seen of it alone: whether it is known, or none where the gap behind it decides
 abbrev pub IsDecidedBy : ChainKind → List Version → Pos → Option Bool → Type 0
-IsDecidedBy kind versions x answer = MatchOption answer ((b : Bool) → b ≡ flagged kind (states_at (Behind x) versions) → IsTrue b ↔ IsKnown kind versions x) (λ b. IsTrue b ↔ IsKnown kind versions x)
+IsDecidedBy kind versions x answer = MatchOption answer ((b : Bool) → b ≡ has_flag kind (states_at (Behind x) versions) → IsTrue b ↔ IsKnown kind versions x) (λ b. IsTrue b ↔ IsKnown kind versions x)

@@ -26,8 +26,8 @@ abbrev pub silent : SpotState
 silent = spot_state Inherit [] []
 
 -- what a version answers that lost what it had there
-abbrev pub lost : SpotState
-lost = spot_state Unknown [] []
+abbrev pub lost_state : SpotState
+lost_state = spot_state Unknown [] []
 
 -- an older state with a newer one over it whose flag is this
 abbrev pub over : Flag → SpotState → SpotState → SpotState

@@ -127,11 +127,11 @@ add_version pt phase c = with_versions (c.versions ++ new_version pt phase ∷ [
 -- ---- a version dropped
 
 -- the number that a version has once the one of number n is gone
-abbrev pub renumbered : ℕ → ℕ → ℕ
-renumbered zero zero = zero
-renumbered zero (suc j) = j
-renumbered (suc n) zero = zero
-renumbered (suc n) (suc j) = suc (renumbered n j)
+abbrev pub number_after_removal : ℕ → ℕ → ℕ
+number_after_removal zero zero = zero
+number_after_removal zero (suc j) = j
+number_after_removal (suc n) zero = zero
+number_after_removal (suc n) (suc j) = suc (number_after_removal n j)
 
 -- the versions but the one of number n
 abbrev pub all_but : ℕ → List Version → List Version
@@ -139,7 +139,7 @@ all_but n versions = take n versions ++ drop (suc n) versions
 
 -- the version of number n dropped: the newer ones, and the pins of these, have numbers less by one
 abbrev pub drop_version : ℕ → Chain → Chain
-drop_version n c = record { kind = c.kind; versions = all_but n c.versions; attached = c.attached; updating = c.updating; pins = list_map (option_map (renumbered n)) c.pins }
+drop_version n c = record { kind = c.kind; versions = all_but n c.versions; attached = c.attached; updating = c.updating; pins = list_map (option_map (number_after_removal n)) c.pins }
 
 -- ---- pins, and the place in the cache
 
@@ -164,24 +164,24 @@ free_number (None ∷ ps) = zero
 free_number (Some p ∷ ps) = suc (free_number ps)
 
 -- the pins with one of a version more, at the least number that is free
-abbrev pub pinned : ℕ → List (Option ℕ) → List (Option ℕ)
-pinned version [] = Some version ∷ []
-pinned version (None ∷ ps) = Some version ∷ ps
-pinned version (Some p ∷ ps) = Some p ∷ pinned version ps
+abbrev pub pins_with : ℕ → List (Option ℕ) → List (Option ℕ)
+pins_with version [] = Some version ∷ []
+pins_with version (None ∷ ps) = Some version ∷ ps
+pins_with version (Some p ∷ ps) = Some p ∷ pins_with version ps
 
 -- the pins with the number i free
-abbrev pub released : ℕ → List (Option ℕ) → List (Option ℕ)
-released i [] = []
-released zero (p ∷ ps) = None ∷ ps
-released (suc i) (p ∷ ps) = p ∷ released i ps
+abbrev pub pins_without : ℕ → List (Option ℕ) → List (Option ℕ)
+pins_without i [] = []
+pins_without zero (p ∷ ps) = None ∷ ps
+pins_without (suc i) (p ∷ ps) = p ∷ pins_without i ps
 
 -- a snapshot of the version of a number
 abbrev pub snapshot : ℕ → Chain → Chain
-snapshot version c = with_pins (pinned version c.pins) c
+snapshot version c = with_pins (pins_with version c.pins) c
 
 -- the snapshot of number i is taken back
 abbrev pub release : ℕ → Chain → Chain
-release i c = with_pins (released i c.pins) c
+release i c = with_pins (pins_without i c.pins) c
 
 -- the chain with an update that stands at a place, or with none
 abbrev pub with_updating : Option Place → Chain → Chain

@@ -9,7 +9,7 @@ use Rattle.rc_position.specs.Position.{Place, Head, Static, Clustered, place_cmp
 use Rattle.rc_mutation.specs.declared.mutations.Mutation.{Mutation}
 use Rattle.rc_mutation.specs.Source.{source_at_static, source_at}
 use Rattle.rc_core.specs.declared.entries.Flag.TheVariants.{Inherit}
-use Rattle.rc_core.specs.SpotState.{SpotState, lost, joined_state}
+use Rattle.rc_core.specs.SpotState.{SpotState, lost_state, joined_state}
 use Rattle.rc_core.specs.Version.{Spot, On, Behind, Version, state_at, static_state, end_position}
 use Rattle.rc_core.specs.Change.{position_of}
 use Rattle.rc_core.specs.AtPlace.{HasItsPlace}
@@ -48,8 +48,8 @@ pub record IsUnit (p q : Place) (change : Mutation) (before now : Version) : Typ
 -- elsewhere nothing changes
 pub record IsGivenUp (p : Place) (before now : Version) : Type 0 where
   pub head : now.pt ≡ before.pt
-  pub statics : (place_cmp Static p ≡ Less → ⊥) → static_state now ≡ lost
+  pub statics : (place_cmp Static p ≡ Less → ⊥) → static_state now ≡ lost_state
   pub statics_left : place_cmp Static p ≡ Less → static_state now ≡ static_state before
-  pub clustered : (x : Pos) → (place_cmp (Clustered x) p ≡ Less → ⊥) → IsBefore x end_position → (state_at (On x) now ≡ lost) × (state_at (Behind x) now ≡ lost)
+  pub clustered : (x : Pos) → (place_cmp (Clustered x) p ≡ Less → ⊥) → IsBefore x end_position → (state_at (On x) now ≡ lost_state) × (state_at (Behind x) now ≡ lost_state)
   pub clustered_left : (s : Spot) → place_cmp (Clustered (position_of s)) p ≡ Less → state_at s now ≡ state_at s before
-  pub at_end : (state_at (On end_position) now ≡ state_at (On end_position) before) ⊎ (state_at (On end_position) now ≡ lost)
+  pub at_end : (state_at (On end_position) now ≡ state_at (On end_position) before) ⊎ (state_at (On end_position) now ≡ lost_state)

@@ -1,6 +1,6 @@
 -- What one version answers at each spot of a partition.
 --     Spot         a clustered position, or the open gap right behind one
---     seen         what entries say of a spot: the entry there, or else the gap before the first entry behind it
+--     finding_in   what entries say of a spot: the entry there, or else the gap before the first entry behind it
 --     static_state, state_at    what a version answers at its static row, and at a spot
 --     IsBeforeEnd  the entries reach up to the spot, as those of a version do: its last one is behind every row
 use Rattle.std.specs.Prelude.{◌≡◌, ℕ, List, [], ◌∷◌, Option, None}
@@ -40,19 +40,19 @@ pub record Finding : Type 0 where
   pub row : Option Row
 
 -- a mark and a row that were found
-abbrev pub found : Mark → Option Row → Finding
-found mark row = record { mark = mark; row = row }
+abbrev pub finding_of : Mark → Option Row → Finding
+finding_of mark row = record { mark = mark; row = row }
 
 -- at a spot before an entry its gap answers, at its position itself, and behind it the entries that follow
 abbrev pub entry_answers : Ordering → Entry → Finding → Finding
-entry_answers Less e rest = found e.gap None
-entry_answers Equal e rest = found e.at e.row
+entry_answers Less e rest = finding_of e.gap None
+entry_answers Equal e rest = finding_of e.at e.row
 entry_answers Greater e rest = rest
 
 -- what entries in order of position say of a spot
-abbrev pub seen : Spot → List Entry → Finding
-seen s [] = found (record { flag = Inherit; tomb = None }) None
-seen s (e ∷ es) = entry_answers (spot_cmp s e.position) e (seen s es)
+abbrev pub finding_in : Spot → List Entry → Finding
+finding_in s [] = finding_of (record { flag = Inherit; tomb = None }) None
+finding_in s (e ∷ es) = entry_answers (spot_cmp s e.position) e (finding_in s es)
 
 -- what was found, as a state
 abbrev pub state_of : Finding → SpotState
@@ -104,4 +104,4 @@ static_state v = spot_state v.static_flag (option_to_list v.statics) []
 
 -- what a version answers at a spot
 abbrev pub state_at : Spot → Version → SpotState
-state_at s v = state_of (seen s v.entries)
+state_at s v = state_of (finding_in s v.entries)

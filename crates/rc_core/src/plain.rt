@@ -11,7 +11,7 @@ ghost use Rattle.rc_core.specs.Merge.{Alike};
 ghost use Rattle.rc_core.specs.Plain.{end_under, head_under, mark_state, mark_under};
 ghost use Rattle.rc_core.specs.Chains.{Chain, IsUpdating};
 ghost use Rattle.rc_core.specs.AtPlace.{IsAtPlace};
-ghost use Rattle.rc_core.specs.Steps.{MayPopulate, released};
+ghost use Rattle.rc_core.specs.Steps.{MayPopulate, pins_without};
 ghost use Rattle.rc_core.specs.Version.{Ascend, IsVersion, static_state};
 ghost use Rattle.rc_position.specs.Position.{Clustered};
 
@@ -121,7 +121,7 @@ pub fn evict_under_update(place: &Pos, version: &mut PlainVersion, index: usize)
 /// The number of a snapshot becomes free; the other snapshots keep theirs.
 pub fn release_pin(pins: &mut Vec<Option<usize>>, number: usize)
     requires { number < length pins.old.items }
-    ensures { pins.new.items ≡ released number pins.old.items }
+    ensures { pins.new.items ≡ pins_without number pins.old.items }
 {
     pins[number] = None;
 }

@@ -9,12 +9,12 @@ ghost use Rattle.rc_position.specs.Position.{IsBefore, pos_cmp};
 ghost use Rattle.std.specs.declared.cmp.Ordering.TheVariants.{Greater};
 ghost use Rattle.rc_core.specs.Parts.{IsFirstPart, IsNearer, IsReach};
 ghost use Rattle.rc_core.specs.SpotState.{SpotState, silent, spot_state, through, under};
-ghost use Rattle.rc_core.specs.Chain.{IsKnown, base, states_at, content, flagged};
+ghost use Rattle.rc_core.specs.Chain.{IsKnown, base, states_at, content, has_flag};
 ghost use Rattle.rc_core.specs.Continuity.{version_tombs, static_states};
 ghost use Rattle.rc_core.specs.Merge.{Alike};
 ghost use Rattle.rc_core.specs.Plain.{mark_state};
 ghost use Rattle.rc_core.specs.Slow.{IsDecidedBy, plain, seen_state, spot_at};
-ghost use Rattle.rc_core.specs.Version.{On, Version, found, state_of, end_position, seen, spot_cmp};
+ghost use Rattle.rc_core.specs.Version.{On, Version, finding_of, state_of, end_position, finding_in, spot_cmp};
 
 use crate::entries::{ChainKind, Entry, Flag, Mark};
 use crate::parts::Part;
@@ -109,7 +109,7 @@ pub fn seen_over(
     mark: Mark,
     row: &Option<Row>,
 ) -> Result<Seen, AllocError>
-    ensures { IfOk result (λ s. Alike (seen_state s) (under (seen_state below) (state_of (found mark row.now)))) }
+    ensures { IfOk result (λ s. Alike (seen_state s) (under (seen_state below) (state_of (finding_of mark row.now)))) }
 {
     with_row(alloc, marked(alloc, below, mark), row)
 }
@@ -133,7 +133,7 @@ fn lay_over(
     x: &Pos,
     side: Side,
 ) -> Result<Seen, AllocError>
-    ensures { IfOk result (λ s. Alike (seen_state s) (under (seen_state below) (state_of (seen (spot_at side x.now) entries.now)))) }
+    ensures { IfOk result (λ s. Alike (seen_state s) (under (seen_state below) (state_of (finding_in (spot_at side x.now) entries.now)))) }
 {
     let mut left = entries;
     while let [first, rest @ ..] = left {
@@ -244,7 +244,7 @@ pub fn base_at(versions: &[PlainVersion], x: &Pos, side: Side) -> Option<usize>
 
 // The flag that entries say at a place.
 fn flag_at(entries: &[Entry], x: &Pos, side: Side) -> Flag
-    ensures { result ≡ (seen (spot_at side x.now) entries.now).mark.flag }
+    ensures { result ≡ (finding_in (spot_at side x.now) entries.now).mark.flag }
 {
     let mut left = entries;
     while let [first, rest @ ..] = left {
@@ -286,7 +286,7 @@ pub fn is_flagged_at(
     x: &Pos,
     side: Side,
 ) -> Result<bool, AllocError>
-    ensures { IfOk result (λ b. b ≡ flagged kind (states_at (spot_at side x.now) (map plain versions.now))) }
+    ensures { IfOk result (λ b. b ≡ has_flag kind (states_at (spot_at side x.now) (map plain versions.now))) }
 {
     Ok(is_known_in(kind, seen_at(alloc, versions, x, side)?.flag))
 }

@@ -3,7 +3,7 @@ use Rattle.std.proofs.Common.{◌≡◌, ℕ, List, Option, Some, IsSome, is_som
 use Rattle.std.specs.Prelude.{IfSome, IsSomeAnd}
 use Rattle.std.specs.Option.{option_map}
 use Rattle.rc_core.specs.Chains.{upto}
-use Rattle.rc_core.specs.Steps.{free_number, pin_at, pinned}
+use Rattle.rc_core.specs.Steps.{free_number, pin_at, pins_with}
 use Rattle.rc_chain.specs.Put.{put-at}
 use Rattle.rc_chain.specs.Memory.{HasPin, IsSnapshotTaken, KeptChain, Memory, chain_at, snapshot_number, with_snapshot}
 use Rattle.rc_chain.specs.declared.chains.Snap.{Snap}
@@ -13,7 +13,7 @@ use Rattle.rc_cursor.specs.Snapshots.{kind_in, kind_seen, versions_in, versions_
 abbrev with_one : KeptChain → KeptChain
 with_one k = with_snapshot (snapshot_number k.chain) k
 
-module _ (given : (version : ℕ) (pins : List (Option ℕ)) → pin_at (pinned version pins) (free_number pins) ≡ Some version) (m n : Memory) (s : Snap) (k : KeptChain) (e : chain_at m s.chain ≡ Some k) (taken : IsSnapshotTaken m n s.chain s.pin s.phase) where
+module _ (given : (version : ℕ) (pins : List (Option ℕ)) → pin_at (pins_with version pins) (free_number pins) ≡ Some version) (m n : Memory) (s : Snap) (k : KeptChain) (e : chain_at m s.chain ≡ Some k) (taken : IsSnapshotTaken m n s.chain s.pin s.phase) where
   now : chain_at n s.chain ≡ Some (with_one k)
   now = ap (λ (q : Memory). chain_at q s.chain) taken.now ∙ put-at m.chains s.chain (option_map with_one (chain_at m s.chain)) ∙ ap (option_map with_one) e
 

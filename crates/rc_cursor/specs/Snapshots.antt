@@ -8,7 +8,7 @@ use Rattle.rc_cell.specs.Winner.{empty_row, greatest}
 use Rattle.rc_position.specs.declared.positions.Pos.{Pos}
 use Rattle.rc_position.specs.Position.{row_pos}
 use Rattle.rc_mutation.specs.declared.fragments.HeadAt.{HeadAt}
-use Rattle.rc_core.specs.Chain.{IsEvenAt, IsKnown, content, flagged, states_at}
+use Rattle.rc_core.specs.Chain.{IsEvenAt, IsKnown, content, has_flag, states_at}
 use Rattle.rc_core.specs.Chains.{upto}
 use Rattle.rc_core.specs.Continuity.{static_states, version_tombs}
 use Rattle.rc_core.specs.declared.entries.ChainKind.{ChainKind}
@@ -55,7 +55,7 @@ Knows m s = IsKnownAs (kind_seen m s) (versions_seen m s)
 pub record IsHeadOf (kind : ChainKind) (versions : List Version) (h : HeadAt) : Type 0 where
   pub pt : h.head.pt ≡ greatest tomb_cmp (version_tombs versions)
   pub statics : h.head.statics ≡ (content (static_states versions)).0
-  pub known : h.known ≡ flagged kind (static_states versions)
+  pub known : h.known ≡ has_flag kind (static_states versions)
 
 -- the snapshot sees this at the head
 abbrev pub IsHeadSeen : Memory → Snap → HeadAt → Type 0

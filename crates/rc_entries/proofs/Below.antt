@@ -11,7 +11,7 @@ use Rattle.rc_core.specs.Version.{IsVersion, Version}
 use Rattle.rc_memory.specs.Kept.{IsSoundChain}
 use Rattle.rc_memory.specs.Memory.{KeptChain, Memory, IsVersionAt, chain_at, on_shown, shown_with}
 use Rattle.rc_memory.specs.laws.Rules.{each-at}
-use Rattle.rc_chain.specs.Lives.{IsRelabelled, relabelled}
+use Rattle.rc_chain.specs.Lives.{IsRelabelled, relabelled_chain}
 use Rattle.rc_chain.specs.laws.PlaceBeside.{shown-form}
 use Rattle.rc_entries.specs.Found.{entry_number}
 use Rattle.rc_entries.specs.Entries.{AreContinuous, AreEntries}
@@ -41,8 +41,8 @@ each-version (v ∷ vs) h = (
 
 module _
     (relabels : (below : ℕ → List Mutation) (p : Place) (k : KeptChain) (newest phase : ℕ) → suc newest ≡ length k.chain.versions → IsChain (at_place p k.chain) → (k.chain.attached ≡ true → SameSource (below (phase_at k.chain.versions newest)) (below phase)) →
-    IsChainContinuous below (at_place p k.chain) → IsChainContinuous below (at_place p (relabelled phase k).chain))
-    (forms : (p : Place) (k : KeptChain) (newest phase : ℕ) → suc newest ≡ length k.chain.versions → IsChain (at_place p k.chain) → IsChain (at_place p (relabelled phase k).chain))
+    IsChainContinuous below (at_place p k.chain) → IsChainContinuous below (at_place p (relabelled_chain phase k).chain))
+    (forms : (p : Place) (k : KeptChain) (newest phase : ℕ) → suc newest ≡ length k.chain.versions → IsChain (at_place p k.chain) → IsChain (at_place p (relabelled_chain phase k).chain))
     (counts : (below other : ℕ → List Mutation) (p : Place) (c : Shown) → IsChain (at_place p c) → ((j : ℕ) → j < length c.versions → SameSource (below (phase_at c.versions j)) (other (phase_at c.versions j))) →
     IsChainContinuous below (at_place p c) → IsChainContinuous other (at_place p c)) where
   -- ---- one chain
@@ -77,7 +77,7 @@ module _
     abbrev now : List Version
     now = on_newest (with_phase phase) k.chain.versions
 
-    relabelled-is : relabelled phase k ≡ on_shown (shown_with now) k
+    relabelled-is : relabelled_chain phase k ≡ on_shown (shown_with now) k
     relabelled-is = ap (λ d. cond d (on_shown (λ c. shown_with (on_newest (with_phase phase) c.versions) c) k) k) attached
 
     third : (j : ℕ) → j < length k.chain.versions → SameSource (between (phase_at now j)) (other (phase_at now j))
@@ -88,8 +88,8 @@ module _
           (λ n. subst (λ (ms : List Mutation). SameSource ms (other (phase_at k.chain.versions j))) (sym (between-old (phase_at k.chain.versions j) n)) (b.older j less)))
     ]
 
-    knows-still : IsChainContinuous below (at_place Head k.chain) → IsChainContinuous other (at_place Head (relabelled phase k).chain)
-    knows-still held = counts between other Head (relabelled phase k).chain (forms Head k newest phase last ch)
+    knows-still : IsChainContinuous below (at_place Head k.chain) → IsChainContinuous other (at_place Head (relabelled_chain phase k).chain)
+    knows-still held = counts between other Head (relabelled_chain phase k).chain (forms Head k newest phase last ch)
         (λ j low. subst (λ (q : KeptChain). SameSource (between (phase_at q.chain.versions j)) (other (phase_at q.chain.versions j))) (sym relabelled-is) (third j (subst (λ n. j < n) (still-long phase k) low)))
         (relabels between Head k newest phase last ch (λ _. second) (counts below between Head k.chain ch first held))
 
@@ -102,7 +102,7 @@ module _
       | inr on ↦ absurd (none-is-none k (sym (w.told id on) ∙ there))
     ]
 
-    entry-knows : (key : List ℕ) (id : ℕ) (k now : KeptChain) → entry_number entries key ≡ Some id → chain_at old id ≡ Some k → relabelled phase k ≡ now → IsBelowAlike (below key) (other key) phase k.chain.versions → AreContinuous below entries old →
+    entry-knows : (key : List ℕ) (id : ℕ) (k now : KeptChain) → entry_number entries key ≡ Some id → chain_at old id ≡ Some k → relabelled_chain phase k ≡ now → IsBelowAlike (below key) (other key) phase k.chain.versions → AreContinuous below entries old →
         now.chain.updating ≡ false → IsChainContinuous (other key) (at_place Head now.chain)
     entry-knows key id k now e there is b h settled =
         let sound : IsSoundChain k.chain = each-at (λ q. IsSoundChain q.chain) old.chains id k w.sound there in
@@ -114,12 +114,12 @@ module _
     pub relabelled-continuous : IsRelabelled phase old new → ((key : List ℕ) (id : ℕ) (k : KeptChain) → entry_number entries key ≡ Some id → chain_at old id ≡ Some k → IsBelowAlike (below key) (other key) phase k.chain.versions) →
         AreContinuous below entries old → AreContinuous other entries new
     relabelled-continuous r b h key id now e there = there-or-not (chain_at old id)
-        (λ none. absurd (none-is-none now (sym (relabelled-at phase old new r id ∙ ap (option_map (relabelled phase)) none) ∙ there)))
-        (λ k was. entry-knows key id k now e was (same-some (relabelled phase k) now (sym (relabelled-at phase old new r id ∙ ap (option_map (relabelled phase)) was) ∙ there)) (b key id k e was) h)
+        (λ none. absurd (none-is-none now (sym (relabelled-at phase old new r id ∙ ap (option_map (relabelled_chain phase)) none) ∙ there)))
+        (λ k was. entry-knows key id k now e was (same-some (relabelled_chain phase k) now (sym (relabelled-at phase old new r id ∙ ap (option_map (relabelled_chain phase)) was) ∙ there)) (b key id k e was) h)
 
     pub invalidated-continuous : (keys : List (List ℕ)) → IsInvalidated (entry_numbers keys entries) phase old new →
         ((key : List ℕ) (id : ℕ) (k : KeptChain) → entry_number (without_keys keys entries) key ≡ Some id → chain_at old id ≡ Some k → IsBelowAlike (below key) (other key) phase k.chain.versions) →
         AreContinuous below entries old → AreContinuous other (without_keys keys entries) new
     invalidated-continuous keys i b h key id now e there = let mine = other-numbers keys entries old a key id e in there-or-not (chain_at old id)
         (λ none. absurd (none-is-none now (sym (invalidated-none (entry_numbers keys entries) phase old new i id none) ∙ there)))
-        (λ k was. entry-knows key id k now mine.0 was (same-some (relabelled phase k) now (sym (invalidated-others (entry_numbers keys entries) phase old new i id k mine.1 was) ∙ there)) (b key id k e was) h)
+        (λ k was. entry-knows key id k now mine.0 was (same-some (relabelled_chain phase k) now (sym (invalidated-others (entry_numbers keys entries) phase old new i id k mine.1 was) ∙ there)) (b key id k e was) h)

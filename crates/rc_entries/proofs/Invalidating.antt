@@ -20,7 +20,7 @@ use Rattle.rc_memory.specs.Changes.{Nowhere}
 use Rattle.rc_memory.specs.Memory.{KeptChain, Memory, chain_at, on_shown, shown_detached}
 use Rattle.rc_memory.specs.laws.Standing.{at-mapped}
 use Rattle.rc_memory.specs.laws.Still.{still-itself, still-then, unmoved-itself, unmoved-then}
-use Rattle.rc_chain.specs.Lives.{IsRelabelled, relabelled}
+use Rattle.rc_chain.specs.Lives.{IsRelabelled, relabelled_chain}
 use Rattle.rc_entries.specs.Found.{DoKeysAscend, entry_number}
 use Rattle.rc_entries.specs.Entries.{AreEntries, AreSettled, LeavesCached}
 use Rattle.rc_entries.specs.Detached.{IsDetached}
@@ -223,14 +223,14 @@ all-listed (id ∷ ids) old new d settled =
     (λ k e. let c = d.1.there k e in c.2.recency ∙ c.1.settled (settled id k (inl refl) e))
 
 module _ (phase : ℕ) (old new : Memory) (r : IsRelabelled phase old new) where
-  pub relabelled-at : (id : ℕ) → chain_at new id ≡ option_map (relabelled phase) (chain_at old id)
-  relabelled-at id = ap (λ cs. slice_index_or cs id None) r.chains ∙ at-mapped (relabelled phase) old.chains id
+  pub relabelled-at : (id : ℕ) → chain_at new id ≡ option_map (relabelled_chain phase) (chain_at old id)
+  relabelled-at id = ap (λ cs. slice_index_or cs id None) r.chains ∙ at-mapped (relabelled_chain phase) old.chains id
 
   pub relabelled-leaves : LeavesCached old new
   relabelled-leaves = record {
-    cached = λ id c. inl (record { kept = relabelled phase c.kept; there = relabelled-at id ∙ ap (option_map (relabelled phase)) c.there; kind = (still-used phase c.kept).0 ∙ c.kind; attached = (still-used phase c.kept).1 ∙ c.attached });
+    cached = λ id c. inl (record { kept = relabelled_chain phase c.kept; there = relabelled-at id ∙ ap (option_map (relabelled_chain phase)) c.there; kind = (still-used phase c.kept).0 ∙ c.kind; attached = (still-used phase c.kept).1 ∙ c.attached });
     told = λ id on. subst (λ ns. IsNumberIn ns id) (sym r.dropped) on;
-    none = λ id c. let was = mapped (relabelled phase) (chain_at old id) c.kept (sym (relabelled-at id) ∙ c.there) in record {
+    none = λ id c. let was = mapped (relabelled_chain phase) (chain_at old id) c.kept (sym (relabelled-at id) ∙ c.there) in record {
       kept = was.0;
       there = was.1;
       kind = sym (still-used phase was.0).0 ∙ ap (λ (k : KeptChain). k.chain.kind) was.2 ∙ c.kind;
@@ -239,17 +239,17 @@ module _ (phase : ℕ) (old new : Memory) (r : IsRelabelled phase old new) where
   }
 
 module _ (ids : List ℕ) (phase : ℕ) (old new : Memory) (h : IsInvalidated ids phase old new) where
-  at-last : (id : ℕ) → chain_at new id ≡ option_map (relabelled phase) (chain_at h.between id)
+  at-last : (id : ℕ) → chain_at new id ≡ option_map (relabelled_chain phase) (chain_at h.between id)
   at-last = relabelled-at phase h.between new h.others
 
   pub invalidated-gone : (id : ℕ) (k : KeptChain) → IsNumberIn ids id → chain_at old id ≡ Some k → chain_at new id ≡ Some (on_shown shown_detached k)
-  invalidated-gone id k on e = at-last id ∙ ap (option_map (relabelled phase)) (all-detached ids old h.between h.gone id k on e)
+  invalidated-gone id k on e = at-last id ∙ ap (option_map (relabelled_chain phase)) (all-detached ids old h.between h.gone id k on e)
 
-  pub invalidated-others : (id : ℕ) (k : KeptChain) → (IsNumberIn ids id → ⊥) → chain_at old id ≡ Some k → chain_at new id ≡ Some (relabelled phase k)
-  invalidated-others id k out e = at-last id ∙ ap (option_map (relabelled phase)) (others-same ids old h.between h.gone id out ∙ e)
+  pub invalidated-others : (id : ℕ) (k : KeptChain) → (IsNumberIn ids id → ⊥) → chain_at old id ≡ Some k → chain_at new id ≡ Some (relabelled_chain phase k)
+  invalidated-others id k out e = at-last id ∙ ap (option_map (relabelled_chain phase)) (others-same ids old h.between h.gone id out ∙ e)
 
   pub invalidated-none : (id : ℕ) → chain_at old id ≡ None → chain_at new id ≡ None
-  invalidated-none id e = at-last id ∙ ap (option_map (relabelled phase)) (none-come ids old h.between h.gone id e)
+  invalidated-none id e = at-last id ∙ ap (option_map (relabelled_chain phase)) (none-come ids old h.between h.gone id e)
 
   pub invalidated-listed : ((id : ℕ) (k : KeptChain) → IsNumberIn ids id → chain_at old id ≡ Some k → k.chain.updating ≡ false) → new.recency ≡ old.recency
   invalidated-listed settled = h.others.recency ∙ all-listed ids old h.between h.gone settled
@@ -257,5 +257,5 @@ module _ (ids : List ℕ) (phase : ℕ) (old new : Memory) (h : IsInvalidated id
   pub invalidated-readers : (id : ℕ) (k : KeptChain) → chain_at old id ≡ Some k → (now : KeptChain) × (chain_at new id ≡ Some now) × KeepsReaders k now
   invalidated-readers id k e = elim (number-or ids id) [
     | inl on ↦ (on_shown shown_detached k, invalidated-gone id k on e, detached-reading k)
-    | inr out ↦ (relabelled phase k, invalidated-others id k out e, relabelled-reading phase k)
+    | inr out ↦ (relabelled_chain phase k, invalidated-others id k out e, relabelled-reading phase k)
   ]

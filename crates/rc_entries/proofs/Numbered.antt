@@ -2,7 +2,7 @@
 use Rattle.std.proofs.Common.{inl, inr, ◌≡◌, ◌≢◌, ℕ, Option, Some, None, refl, sym, ap, ◌∙◌, subst, slice_index_or}
 use Rattle.std.specs.Option.{option_map}
 use Rattle.lsa_pool.specs.laws.Usages.{decided}
-use Rattle.rc_registry.specs.Registry.{put}
+use Rattle.rc_registry.specs.Registry.{put_at_number}
 use Rattle.rc_memory.specs.Memory.{KeptChain, Memory, chain_at, on_chain}
 use Rattle.rc_memory.specs.laws.Put.{put-at, put-beside}
 use Rattle.rc_entries.proofs.Ways.{none-is-none}
@@ -11,7 +11,7 @@ use Rattle.rc_entries.proofs.Ways.{none-is-none}
 pub here-or-beside : (P : ℕ → Type 0) (id i : ℕ) → P id → (i ≢ id → P i) → P i
 here-or-beside P id i here beside = elim (decided i id) [ inl same ↦ subst P (sym same) here | inr ne ↦ beside ne ]
 
-module _ (old new : Memory) (id : ℕ) (c : Option KeptChain) (is : new.chains ≡ put id c old.chains) where
+module _ (old new : Memory) (id : ℕ) (c : Option KeptChain) (is : new.chains ≡ put_at_number id c old.chains) where
   pub chain-here : chain_at new id ≡ c
   chain-here = ap (λ cs. slice_index_or cs id None) is ∙ put-at old.chains id c
 

@@ -17,7 +17,7 @@ use Rattle.rc_core.specs.Version.{Spot, Version, state_at, static_state}
 use Rattle.rc_core.specs.laws.Merging.{alike-even, equal_alike}
 use Rattle.rc_core.specs.laws.Written.{alike-stands}
 use Rattle.rc_memory.specs.Memory.{KeptChain, on_shown, shown_detached}
-use Rattle.rc_chain.specs.Lives.{relabelled}
+use Rattle.rc_chain.specs.Lives.{relabelled_chain}
 use Rattle.rc_chain.specs.laws.PlaceBeside.{relabelled-by}
 use Rattle.rc_entries.specs.Invalidated.{AreSameButPhases, KeepsReaders}
 
@@ -87,19 +87,19 @@ module _ (phase : ℕ) where
 
   -- ---- a chain with it
 
-  pub still-long : (k : KeptChain) → length (relabelled phase k).chain.versions ≡ length k.chain.versions
+  pub still-long : (k : KeptChain) → length (relabelled_chain phase k).chain.versions ≡ length k.chain.versions
   still-long k = relabelled-by (λ now. length now.chain.versions ≡ length k.chain.versions) phase k (λ _. newest-long k.chain.versions) refl
 
-  pub still-used : (k : KeptChain) → ((relabelled phase k).chain.kind ≡ k.chain.kind) × ((relabelled phase k).chain.attached ≡ k.chain.attached)
+  pub still-used : (k : KeptChain) → ((relabelled_chain phase k).chain.kind ≡ k.chain.kind) × ((relabelled_chain phase k).chain.attached ≡ k.chain.attached)
   still-used k = relabelled-by (λ now. (now.chain.kind ≡ k.chain.kind) × (now.chain.attached ≡ k.chain.attached)) phase k (λ _. (refl, refl)) (refl, refl)
 
-  pub still-updating : (k : KeptChain) → (relabelled phase k).chain.updating ≡ k.chain.updating
+  pub still-updating : (k : KeptChain) → (relabelled_chain phase k).chain.updating ≡ k.chain.updating
   still-updating k = relabelled-by (λ now. now.chain.updating ≡ k.chain.updating) phase k (λ _. refl) refl
 
   newest-seen : (vs : List Version) (j : ℕ) → IsSeenAlike (upto vs j) (upto (on_newest (with_phase phase) vs) j)
   newest-seen vs j = same-seen (upto vs j) (upto (on_newest (with_phase phase) vs) j) (same-upto vs (on_newest (with_phase phase) vs) j (newest-same vs))
 
-  pub relabelled-reading : (k : KeptChain) → KeepsReaders k (relabelled phase k)
+  pub relabelled-reading : (k : KeptChain) → KeepsReaders k (relabelled_chain phase k)
   relabelled-reading k = relabelled-by (KeepsReaders k) phase k (λ _. record {
     kind = refl;
     pins = refl;
@@ -109,14 +109,14 @@ module _ (phase : ℕ) where
     seen = newest-seen k.chain.versions;
   }) (itself-reading k)
 
-  pub relabelled-form : (p : Place) (k : KeptChain) → IsMemtableChain (at_place p k.chain) → IsMemtableChain (at_place p (relabelled phase k).chain)
+  pub relabelled-form : (p : Place) (k : KeptChain) → IsMemtableChain (at_place p k.chain) → IsMemtableChain (at_place p (relabelled_chain phase k).chain)
   relabelled-form p k h = relabelled-by (λ now. IsMemtableChain (at_place p now.chain)) phase k (λ _. record {
     flags = newest-inherit k.chain.versions h.flags;
     even = λ j need x. alike-even Memtable (upto k.chain.versions j) (upto (on_newest (with_phase phase) k.chain.versions) j) x (newest-seen k.chain.versions j)
         (h.even j (elim need [ inl on ↦ inl on | inr last ↦ inr (last.0, last.1 ∙ newest-long k.chain.versions) ]) x);
   }) h
 
-  pub relabelled-stands : (writes : List Mutation) (k : KeptChain) → StandsFor writes k.chain.versions → StandsFor writes (relabelled phase k).chain.versions
+  pub relabelled-stands : (writes : List Mutation) (k : KeptChain) → StandsFor writes k.chain.versions → StandsFor writes (relabelled_chain phase k).chain.versions
   relabelled-stands writes k h = relabelled-by (λ now. StandsFor writes now.chain.versions) phase k
       (λ _. alike-stands writes k.chain.versions (on_newest (with_phase phase) k.chain.versions) (same-seen k.chain.versions (on_newest (with_phase phase) k.chain.versions) (newest-same k.chain.versions)) h) h
 

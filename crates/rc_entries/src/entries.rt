@@ -8,7 +8,7 @@ ghost use Rattle.rc_rowcode.specs.Spelling.{RowFits};
 ghost use Rattle.rc_version.specs.Versions.{statics_bytes};
 ghost use Rattle.rc_memory.specs.Memory.{Memory, with_dropped};
 ghost use Rattle.rc_chain.specs.Lives.{IsSameButSlots};
-ghost use Rattle.rc_populate.specs.Filling.{IsEntryOpened, given};
+ghost use Rattle.rc_populate.specs.Filling.{IsEntryOpened, filled_statics};
 ghost use Rattle.rc_entries.specs.Found.{DoKeysAscend, IsForgotten, entry_number};
 ghost use Rattle.rc_entries.specs.Entries.{AreEntries, AreSettled, IsCached};
 ghost use Rattle.rc_entries.specs.Detached.{IsDetached};
@@ -87,13 +87,13 @@ impl Entries {
         requires absent { entry_number self.old key.now ≡ None }
         requires fits { 88 ≤ S / 8 }
         requires row { RowFits head.now.statics }
-        requires small { statics_bytes (given head.now.statics) ≤ S / 8 }
-        requires spare { 152 + statics_bytes (given head.now.statics) ≤ spare_of S chains.old.region.usages }
-        ensures opened { IfOk result (λ id. IsEntryOpened id head.now.pt (given head.now.statics) phase chains.old chains.new) }
+        requires small { statics_bytes (filled_statics head.now.statics) ≤ S / 8 }
+        requires spare { 152 + statics_bytes (filled_statics head.now.statics) ≤ spare_of S chains.old.region.usages }
+        ensures opened { IfOk result (λ id. IsEntryOpened id head.now.pt (filled_statics head.now.statics) phase chains.old chains.new) }
         ensures added { IfOk result (λ id. self.new ≡ insert_entry bytes_cmp self.old key.now id) }
         ensures entries { OnOk result (AreEntries self.new chains.new) }
         ensures settled { OnOk result (AreSettled self.old chains.old → AreSettled self.new chains.new) }
-        ensures spare { IfOk result (λ id. spare_of S chains.old.region.usages ≤ spare_of S chains.new.region.usages + (152 + statics_bytes (given head.now.statics))) }
+        ensures spare { IfOk result (λ id. spare_of S chains.old.region.usages ≤ spare_of S chains.new.region.usages + (152 + statics_bytes (filled_statics head.now.statics))) }
         ensures same { OnErr result (self.new ≡ self.old) }
         ensures err { OnErr result (IsSameButSlots chains.old chains.new) }
     {

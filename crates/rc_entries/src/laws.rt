@@ -18,7 +18,7 @@ ghost use Rattle.rc_core.specs.Version.{Version};
 ghost use Rattle.rc_registry.specs.Registry.{IsNumberIn};
 ghost use Rattle.rc_memory.specs.Kept.{IsSoundChain};
 ghost use Rattle.rc_memory.specs.Memory.{KeptChain, Member, Memory, IsSnapshotTaken, IsUntouched, chain_at, on_chain, on_shown, shown_detached, with_chains, with_dropped, without_snapshot};
-ghost use Rattle.rc_chain.specs.Lives.{IsChainDropped, IsRelabelled, relabelled};
+ghost use Rattle.rc_chain.specs.Lives.{IsChainDropped, IsRelabelled, relabelled_chain};
 ghost use Rattle.rc_populate.specs.Filling.{IsEntryOpened, on_newest_of};
 ghost use Rattle.rc_entries.specs.Found.{DoKeysAscend, IsForgotten, entry_number};
 ghost use Rattle.rc_entries.specs.Entries.{AreContinuous, AreEntries, AreSettled, IsCached, IsUsedAlike, LeavesCached};
@@ -91,7 +91,7 @@ pub fn what_an_invalidation_leaves()
     ensures found { (entries : List (List ℕ × ℕ)) (keys : List (List ℕ)) (q : List ℕ) → DoKeysAscend entries → entry_number (without_keys keys entries) q ≡ cond (is_one_of keys q) None (entry_number entries q) }
     ensures numbers { (entries : List (List ℕ × ℕ)) (keys : List (List ℕ)) (id : ℕ) → DoKeysAscend entries → IsNumberIn (entry_numbers keys entries) id ↔ ((key : List ℕ) × (is_one_of keys key ≡ true) × (entry_number entries key ≡ Some id)) }
     ensures gone { (ids : List ℕ) (phase id : ℕ) (k : KeptChain) (old new : Memory) → IsInvalidated ids phase old new → IsNumberIn ids id → chain_at old id ≡ Some k → chain_at new id ≡ Some (on_shown shown_detached k) }
-    ensures others { (ids : List ℕ) (phase id : ℕ) (k : KeptChain) (old new : Memory) → IsInvalidated ids phase old new → (IsNumberIn ids id → ⊥) → chain_at old id ≡ Some k → chain_at new id ≡ Some (relabelled phase k) }
+    ensures others { (ids : List ℕ) (phase id : ℕ) (k : KeptChain) (old new : Memory) → IsInvalidated ids phase old new → (IsNumberIn ids id → ⊥) → chain_at old id ≡ Some k → chain_at new id ≡ Some (relabelled_chain phase k) }
     ensures none { (ids : List ℕ) (phase id : ℕ) (old new : Memory) → IsInvalidated ids phase old new → chain_at old id ≡ None → chain_at new id ≡ None }
     ensures readers { (ids : List ℕ) (phase id : ℕ) (k : KeptChain) (old new : Memory) → IsInvalidated ids phase old new → chain_at old id ≡ Some k → (now : KeptChain) × (chain_at new id ≡ Some now) × KeepsReaders k now }
     ensures rest { (ids : List ℕ) (phase : ℕ) (old new : Memory) → IsInvalidated ids phase old new → IsAtRest old new }
@@ -100,8 +100,8 @@ pub fn what_an_invalidation_leaves()
 
 /// A memtable's chain whose newest version gets another phase has the form still, and stands for the same writes.
 pub fn a_new_phase_keeps_a_memtables_chain()
-    ensures form { (p : Place) (phase : ℕ) (k : KeptChain) → IsMemtableChain (at_place p k.chain) → IsMemtableChain (at_place p (relabelled phase k).chain) }
-    ensures stands { (writes : List Mutation) (phase : ℕ) (k : KeptChain) → StandsFor writes k.chain.versions → StandsFor writes (relabelled phase k).chain.versions }
+    ensures form { (p : Place) (phase : ℕ) (k : KeptChain) → IsMemtableChain (at_place p k.chain) → IsMemtableChain (at_place p (relabelled_chain phase k).chain) }
+    ensures stands { (writes : List Mutation) (phase : ℕ) (k : KeptChain) → StandsFor writes k.chain.versions → StandsFor writes (relabelled_chain phase k).chain.versions }
 {}
 
 /// What the chains of entries know stays what lies below, where newest versions get another phase, and where partitions are invalidated: for each key that is an entry still, what lies below it at this phase is of the same source as what lay below it at the phase of its newest version, and what lies there at the phases of older versions as what lay there.

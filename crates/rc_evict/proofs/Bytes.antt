@@ -24,10 +24,10 @@ use Rattle.rc_object.specs.Objects.{SpellsEntry}
 use Rattle.rc_version.specs.Versions.{bytes_at, entries_bytes, entry_bytes, statics_bytes, version_bytes}
 use Rattle.rc_version.specs.laws.Holding.{bytes-same, bytes-with}
 use Rattle.rc_partition.specs.laws.Lists.{elem-cases, elem-first, elem-none, elem-split, sum-middle, sum-without}
-use Rattle.rc_registry.specs.Registry.{put}
+use Rattle.rc_registry.specs.Registry.{put_at_number}
 use Rattle.rc_memory.specs.Memory.{KeptChain, Memory, IsVersionAt, chain_at, on_shown, on_version_of}
 use Rattle.rc_memory.specs.Recency.{HasObject, IsRecency, MustBeListed}
-use Rattle.rc_memory.specs.Changes.{OfVersion, member}
+use Rattle.rc_memory.specs.Changes.{OfVersion, member_at}
 use Rattle.rc_memory.specs.Room.{FitTogether, chain_bytes}
 use Rattle.rc_memory.specs.Kept.{present}
 use Rattle.rc_memory.specs.laws.Listing.{pos_decided}
@@ -146,26 +146,26 @@ chain-lost k j v f eighth at less =
 
 -- ---- what all chains take
 
-pub put-lost : (cs : List (Option KeptChain)) (id : ℕ) (k l : KeptChain) (eighth : ℕ) → slice_index_or cs id None ≡ Some k → chain_bytes k ≤ chain_bytes l + eighth → sum_by chain_bytes (present cs) ≤ sum_by chain_bytes (present (put id (Some l) cs)) + eighth
+pub put-lost : (cs : List (Option KeptChain)) (id : ℕ) (k l : KeptChain) (eighth : ℕ) → slice_index_or cs id None ≡ Some k → chain_bytes k ≤ chain_bytes l + eighth → sum_by chain_bytes (present cs) ≤ sum_by chain_bytes (present (put_at_number id (Some l) cs)) + eighth
 put-lost cs id k l eighth there less =
     let p = placed cs id in
     let before = ap (sum_by chain_bytes) (p.there k there) ∙ sum-middle chain_bytes p.front p.back k in
     let after = ap (sum_by chain_bytes) (p.with_one l) ∙ sum-middle chain_bytes p.front p.back l in
-    subst (λ n. n ≤ sum_by chain_bytes (present (put id (Some l) cs)) + eighth) (sym before)
+    subst (λ n. n ≤ sum_by chain_bytes (present (put_at_number id (Some l) cs)) + eighth) (sym before)
     (subst (λ n. sum_by chain_bytes p.front + (chain_bytes k + sum_by chain_bytes p.back) ≤ n + eighth) (sym after)
     (sum_step (sum_by chain_bytes p.front) (chain_bytes k) (sum_by chain_bytes p.back) (chain_bytes l) eighth less))
 
-pub put-less : (cs : List (Option KeptChain)) (id : ℕ) (k l : KeptChain) → slice_index_or cs id None ≡ Some k → chain_bytes l ≤ chain_bytes k → sum_by chain_bytes (present (put id (Some l) cs)) ≤ sum_by chain_bytes (present cs)
+pub put-less : (cs : List (Option KeptChain)) (id : ℕ) (k l : KeptChain) → slice_index_or cs id None ≡ Some k → chain_bytes l ≤ chain_bytes k → sum_by chain_bytes (present (put_at_number id (Some l) cs)) ≤ sum_by chain_bytes (present cs)
 put-less cs id k l there less =
     let p = placed cs id in
     let before : sum_by chain_bytes (present cs) ≡ sum_by chain_bytes p.front + (chain_bytes k + sum_by chain_bytes p.back) = ap (sum_by chain_bytes) (p.there k there) ∙ sum-middle chain_bytes p.front p.back k in
-    let after : sum_by chain_bytes (present (put id (Some l) cs)) ≡ sum_by chain_bytes p.front + (chain_bytes l + sum_by chain_bytes p.back) = ap (sum_by chain_bytes) (p.with_one l) ∙ sum-middle chain_bytes p.front p.back l in
+    let after : sum_by chain_bytes (present (put_at_number id (Some l) cs)) ≡ sum_by chain_bytes p.front + (chain_bytes l + sum_by chain_bytes p.back) = ap (sum_by chain_bytes) (p.with_one l) ∙ sum-middle chain_bytes p.front p.back l in
     omega (arith, before, after, less)
 
 gone_sum : (a b c : ℕ) → a + (b + c) ≡ a + c + b
 gone_sum a b c = omega arith
 
-pub put-gone : (cs : List (Option KeptChain)) (id : ℕ) (k : KeptChain) → slice_index_or cs id None ≡ Some k → sum_by chain_bytes (present cs) ≡ sum_by chain_bytes (present (put id None cs)) + chain_bytes k
+pub put-gone : (cs : List (Option KeptChain)) (id : ℕ) (k : KeptChain) → slice_index_or cs id None ≡ Some k → sum_by chain_bytes (present cs) ≡ sum_by chain_bytes (present (put_at_number id None cs)) + chain_bytes k
 put-gone cs id k there =
     let p = placed cs id in
     ap (sum_by chain_bytes) (p.there k there) ∙ sum-middle chain_bytes p.front p.back k ∙ gone_sum (sum_by chain_bytes p.front) (chain_bytes k) (sum_by chain_bytes p.back)
@@ -196,7 +196,7 @@ each_bare (v ∷ vs) bare =
 module _ (m : Memory) (id : ℕ) (k : KeptChain) (there : chain_at m id ≡ Some k) (rule : IsRecency m) (versions : (i j : ℕ) → OfVersion m i j (λ k v. IsVersion v)) (idle : IsIdle m id k.chain) where
   -- an object that is not the end dummy is listed
   never : (j : ℕ) (v : Version) (at : Option Pos) → IsVersionAt k.chain.versions j v → HasObject v at → at ≢ Some end_position → ⊥
-  never j v at number object inner = idle.unlisted j at (rule.complete (member id j at) (there_at (λ q. MustBeListed q.chain j at) (chain_at m id) k (record {
+  never j v at number object inner = idle.unlisted j at (rule.complete (member_at id j at) (there_at (λ q. MustBeListed q.chain j at) (chain_at m id) k (record {
     cached = idle.cached;
     version = v;
     number = number;

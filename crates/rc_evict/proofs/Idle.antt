@@ -9,7 +9,7 @@ use Rattle.rc_core.specs.Chains.{Shown}
 use Rattle.rc_registry.specs.Registry.{AreFree}
 use Rattle.rc_partition.specs.laws.Lists.{elem-cases, elem-first, elem-later, elem-none}
 use Rattle.rc_memory.specs.Memory.{KeptChain, Member, Memory}
-use Rattle.rc_memory.specs.Changes.{member}
+use Rattle.rc_memory.specs.Changes.{member_at}
 use Rattle.rc_chain.specs.Lives.{IsIdle}
 use Rattle.rc_evict.proofs.Chains.{IsSameUse}
 
@@ -41,7 +41,7 @@ settled_decided true = inr (λ e. cc e)
 settled_decided false = inl refl
 
 -- the member at a place
-pub of-chain : (ws : List Member) (w : Member) (id : ℕ) → w.chain ≡ id → Contains ws w → Contains ws (member id w.version w.position)
+pub of-chain : (ws : List Member) (w : Member) (id : ℕ) → w.chain ≡ id → Contains ws w → Contains ws (member_at id w.version w.position)
 of-chain ws w id e on = subst (Contains ws) (λ i. record { chain = e i; version = w.version; position = w.position }) on
 
 pub idle-decided : (m : Memory) (id : ℕ) (c : Shown) → IsIdle m id c ⊎ (IsIdle m id c → ⊥)
@@ -53,14 +53,14 @@ idle-decided m id c = elim (cached_decided c.kind) [
       | inr pinned ↦ inr (λ i. pinned i.unpinned)
       | inl free ↦ elim (own-or-none m.recency id) [
         | inl k ↦ inr (λ i. i.unlisted k.0.version k.0.position (of-chain m.recency k.0 id k.2 k.1))
-        | inr none ↦ inl (record { cached = cached; settled = settled; unpinned = free; unlisted = λ j at on. none (member id j at) on refl })
+        | inr none ↦ inl (record { cached = cached; settled = settled; unpinned = free; unlisted = λ j at on. none (member_at id j at) on refl })
       ]
     ]
   ]
 ]
 
 -- it counts what is listed, and the chain's use
-pub idle-alike : (m n : Memory) (id : ℕ) (k l : KeptChain) → IsSameUse k l → ((j : ℕ) (at : Option Pos) → Contains n.recency (member id j at) → Contains m.recency (member id j at)) → IsIdle m id l.chain → IsIdle n id k.chain
+pub idle-alike : (m n : Memory) (id : ℕ) (k l : KeptChain) → IsSameUse k l → ((j : ℕ) (at : Option Pos) → Contains n.recency (member_at id j at) → Contains m.recency (member_at id j at)) → IsIdle m id l.chain → IsIdle n id k.chain
 idle-alike m n id k l u fewer i = record {
   cached = sym u.kind ∙ i.cached;
   settled = sym u.updating ∙ i.settled;
@@ -68,7 +68,7 @@ idle-alike m n id k l u fewer i = record {
   unlisted = λ j at on. i.unlisted j at (fewer j at on);
 }
 
-pub idle-again : (m n : Memory) (id : ℕ) (k l : KeptChain) → IsSameUse k l → ((j : ℕ) (at : Option Pos) → Contains n.recency (member id j at) → Contains m.recency (member id j at)) → IsIdle m id k.chain → IsIdle n id l.chain
+pub idle-again : (m n : Memory) (id : ℕ) (k l : KeptChain) → IsSameUse k l → ((j : ℕ) (at : Option Pos) → Contains n.recency (member_at id j at) → Contains m.recency (member_at id j at)) → IsIdle m id k.chain → IsIdle n id l.chain
 idle-again m n id k l u fewer i = record {
   cached = u.kind ∙ i.cached;
   settled = u.updating ∙ i.settled;

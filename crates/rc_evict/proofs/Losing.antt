@@ -16,10 +16,10 @@ use Rattle.rc_core.specs.laws.Spots.{ascend-tail}
 use Rattle.rc_core.specs.laws.Surgery.{entry-at, last-gap-lost}
 use Rattle.rc_object.specs.Objects.{HoldsEntry}
 use Rattle.rc_partition.specs.laws.Lists.{elem-cases, elem-first, elem-here, elem-none, once-head}
-use Rattle.rc_registry.specs.Registry.{put}
+use Rattle.rc_registry.specs.Registry.{put_at_number}
 use Rattle.rc_memory.specs.Memory.{HasVersion, KeptChain, Member, Memory, IsVersionAt, chain_at, listed_as, on_shown, on_version_of, shown_with}
 use Rattle.rc_memory.specs.Recency.{IsRecency, MayBeListed, MustBeListed}
-use Rattle.rc_memory.specs.Changes.{AtAlone, IsVersionChanged, IsWithout, Nowhere, OfVersion, StandStill, member}
+use Rattle.rc_memory.specs.Changes.{AtAlone, IsVersionChanged, IsWithout, Nowhere, OfVersion, StandStill, member_at}
 use Rattle.rc_memory.specs.laws.At.{number-low}
 use Rattle.rc_memory.specs.laws.Places.{tails}
 use Rattle.rc_memory.specs.laws.Put.{put-at}
@@ -44,12 +44,12 @@ without-first w rest old new is once (inr on) = first on.0 (sym is ∙ on.2) on.
     first (x ∷ front) e f = absurd (once-head w rest (subst (AllPairs ◌≢◌) is once) (subst (λ l. Contains l w) (sym (tails w x rest (front ++ (w ∷ on.1)) e)) (elem-here front on.1 w)))
 
 -- the place of a member
-pub same-member : (w : Member) (id j : ℕ) (at : Option Pos) → id ≡ w.chain → j ≡ w.version → w.position ≡ at → w ≡ member id j at
+pub same-member : (w : Member) (id j : ℕ) (at : Option Pos) → id ≡ w.chain → j ≡ w.version → w.position ≡ at → w ≡ member_at id j at
 same-member w id j at a b c = λ i. record { chain = sym a i; version = sym b i; position = c i }
 
 -- ---- one change after another
 
-put_put : {X : Type 0} (xs : List (Option X)) (n : ℕ) (x y : Option X) → put n x (put n y xs) ≡ put n x xs
+put_put : {X : Type 0} (xs : List (Option X)) (n : ℕ) (x y : Option X) → put_at_number n x (put_at_number n y xs) ≡ put_at_number n x xs
 put_put [] zero x y = refl
 put_put [] (suc n) x y = ap (λ l. None ∷ l) (put_put [] n x y)
 put_put (z ∷ xs) zero x y = refl
@@ -68,10 +68,10 @@ module _ (f g h : Version → Version) where
 
   pub changed-joined : (id j : ℕ) (m n o : Memory) → IsVersionChanged id j f Nowhere m n → IsVersionChanged id j g Nowhere n o → OfVersion m id j (λ k v. g (f v) ≡ h v) → IsVersionChanged id j h Nowhere m o
   changed-joined id j m n o a b same = record {
-    chains = b.chains ∙ ap (λ cs. put id (option_map (on_shown (on_version_of j g)) (slice_index_or cs id None)) cs) a.chains
-        ∙ ap (λ x. put id (option_map (on_shown (on_version_of j g)) x) (put id (option_map (on_shown (on_version_of j f)) (chain_at m id)) m.chains)) (put-at m.chains id (option_map (on_shown (on_version_of j f)) (chain_at m id)))
+    chains = b.chains ∙ ap (λ cs. put_at_number id (option_map (on_shown (on_version_of j g)) (slice_index_or cs id None)) cs) a.chains
+        ∙ ap (λ x. put_at_number id (option_map (on_shown (on_version_of j g)) x) (put_at_number id (option_map (on_shown (on_version_of j f)) (chain_at m id)) m.chains)) (put-at m.chains id (option_map (on_shown (on_version_of j f)) (chain_at m id)))
         ∙ put_put m.chains id (option_map (on_shown (on_version_of j g)) (option_map (on_shown (on_version_of j f)) (chain_at m id))) (option_map (on_shown (on_version_of j f)) (chain_at m id))
-        ∙ ap (λ x. put id x m.chains) (map_joined j (chain_at m id) (λ k e v at. same k v e at));
+        ∙ ap (λ x. put_at_number id x m.chains) (map_joined j (chain_at m id) (λ k e v at. same k v e at));
     dropped = b.dropped ∙ a.dropped;
     counts = b.counts ∙ a.counts;
     still = still-then Nowhere m n o a.still b.still;
@@ -159,7 +159,7 @@ module _ (m : Memory) (w : Member) (rest : List Member) (list : m.recency ≡ w 
       subst (λ i. HasVersion m i j) (sym a) (subst (HasVersion m w.chain) (sym b) here)
 
   -- a list without it is the rest
-  pub front-gone : (n : Memory) (id j : ℕ) (at : Option Pos) → w ≡ member id j at → IsWithout (member id j at) m.recency n.recency → m.recency ≡ w ∷ n.recency
+  pub front-gone : (n : Memory) (id j : ℕ) (at : Option Pos) → w ≡ member_at id j at → IsWithout (member_at id j at) m.recency n.recency → m.recency ≡ w ∷ n.recency
   front-gone n id j at same h = list ∙ ap (λ l. w ∷ l) (sym (without-first w rest m.recency n.recency list rule.once (subst (λ x. IsWithout x m.recency n.recency) (sym same) h)))
 
 inner_of : (s : Evicted) (at : Option Pos) (v : Version) → (s ≡ sort.Row) ⊎ (s ≡ sort.Dummy) → IsSort s at v → (x : Pos) × (at ≡ Some x) × (x ≢ end_position)
@@ -181,10 +181,10 @@ taken_alone s w (inl e) = ap (λ z. TakenOut z w) (sym e)
 taken_alone s w (inr e) = ap (λ z. TakenOut z w) (sym e)
 
 module _ (m n : Memory) (w : Member) (rest : List Member) (list : m.recency ≡ w ∷ rest) (rule : IsRecency m) (s : Evicted) (stood : OfVersion m w.chain w.version (λ k v. IsSort s w.position v)) (id j : ℕ) (chain : id ≡ w.chain) (version : j ≡ w.version) where
-  at_member : (f : Version → Version) (at : Option Pos) → w.position ≡ at → IsVersionChanged id j f (AtAlone (member id j at)) m n → IsVersionChanged w.chain w.version f (AtAlone w) m n
+  at_member : (f : Version → Version) (at : Option Pos) → w.position ≡ at → IsVersionChanged id j f (AtAlone (member_at id j at)) m n → IsVersionChanged w.chain w.version f (AtAlone w) m n
   at_member f at pos h = subst (λ (x : Member). IsVersionChanged x.chain x.version f (AtAlone x) m n) (sym (same-member w id j at chain version pos)) h
 
-  pub lost-inner : (is : (s ≡ sort.Row) ⊎ (s ≡ sort.Dummy)) (x : Pos) → w.position ≡ Some x → x ≢ end_position → IsVersionChanged id j (λ c. with_entries (drop_at x c.entries) c) (AtAlone (member id j (Some x))) m n → IsWithout (member id j (Some x)) m.recency n.recency → IsFrontLost s w m n
+  pub lost-inner : (is : (s ≡ sort.Row) ⊎ (s ≡ sort.Dummy)) (x : Pos) → w.position ≡ Some x → x ≢ end_position → IsVersionChanged id j (λ c. with_entries (drop_at x c.entries) c) (AtAlone (member_at id j (Some x))) m n → IsWithout (member_at id j (Some x)) m.recency n.recency → IsFrontLost s w m n
   lost-inner is x pos inner changed without = record {
     front = front-gone m w rest list rule n id j (Some x) (same-member w id j (Some x) chain version pos) without;
     listed = front-may m w rest list rule;
@@ -194,7 +194,7 @@ module _ (m n : Memory) (w : Member) (rest : List Member) (list : m.recency ≡ 
         (at_member (λ c. with_entries (drop_at x c.entries) c) (Some x) pos changed));
   }
 
-  pub lost-static : s ≡ sort.Static → w.position ≡ None → IsVersionChanged id j without_statics (AtAlone (member id j None)) m n → IsWithout (member id j None) m.recency n.recency → IsFrontLost s w m n
+  pub lost-static : s ≡ sort.Static → w.position ≡ None → IsVersionChanged id j without_statics (AtAlone (member_at id j None)) m n → IsWithout (member_at id j None) m.recency n.recency → IsFrontLost s w m n
   lost-static is pos changed without = record {
     front = front-gone m w rest list rule n id j None (same-member w id j None chain version pos) without;
     listed = front-may m w rest list rule;

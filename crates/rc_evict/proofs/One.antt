@@ -6,7 +6,7 @@ use Rattle.lsa_region.specs.Region.{live_bytes}
 use Rattle.lsa_store.specs.declared.place.Ref.{Ref}
 use Rattle.rc_core.specs.Version.{IsVersion}
 use Rattle.rc_partition.specs.laws.Lists.{elem-here}
-use Rattle.rc_registry.specs.Registry.{put}
+use Rattle.rc_registry.specs.Registry.{put_at_number}
 use Rattle.rc_memory.specs.declared.counts.Counts.{Counts}
 use Rattle.rc_memory.specs.Memory.{HasChain, KeptChain, Member, Memory, chain_at, counts_raised, raised_by, on_shown, on_version_of}
 use Rattle.rc_memory.specs.Recency.{IsRecency, MayBeListed}
@@ -140,12 +140,12 @@ module _ (m l q n : Memory) (s : Evicted) (w : Member) (id : ℕ) (t : IsFrontLo
     -- and no more is live
     fewer : (k : KeptChain) → chain_at m w.chain ≡ Some k → sum_by chain_bytes (present l.chains) ≤ sum_by chain_bytes (present m.chains)
     fewer k there =
-        subst (λ cs. sum_by chain_bytes (present cs) ≤ sum_by chain_bytes (present m.chains)) (sym (t.changed.chains ∙ ap (λ o. put w.chain (option_map (on_shown (on_version_of w.version (evicted_at w.position))) o) m.chains) there))
+        subst (λ cs. sum_by chain_bytes (present cs) ≤ sum_by chain_bytes (present m.chains)) (sym (t.changed.chains ∙ ap (λ o. put_at_number w.chain (option_map (on_shown (on_version_of w.version (evicted_at w.position))) o) m.chains) there))
         (put-less m.chains w.chain k (on_shown (on_version_of w.version (evicted_at w.position)) k) there (chain-less w.version w.position k))
 
     pub one-less : live_bytes m.region ≡ sum_by chain_bytes (present m.chains) → live_bytes n.region ≡ sum_by chain_bytes (present n.chains) → live_bytes n.region ≤ live_bytes m.region
     one-less old_live new_live = let k = front in elim (idle-decided (eviction_counted l) w.chain k.0.chain) [
-      | inl i ↦ less_sum (sum_by chain_bytes (present m.chains)) (sum_by chain_bytes (present l.chains)) (sum_by chain_bytes (present (put w.chain None l.chains))) (chain_bytes (on_shown (on_version_of w.version (evicted_at w.position)) k.0))
+      | inl i ↦ less_sum (sum_by chain_bytes (present m.chains)) (sum_by chain_bytes (present l.chains)) (sum_by chain_bytes (present (put_at_number w.chain None l.chains))) (chain_bytes (on_shown (on_version_of w.version (evicted_at w.position)) k.0))
           (live_bytes m.region) (live_bytes n.region) old_live (new_live ∙ ap (λ cs. sum_by chain_bytes (present cs)) (gone_now k.0 k.1 i).chains)
           (put-gone l.chains w.chain (on_shown (on_version_of w.version (evicted_at w.position)) k.0) (lost_at k.0 k.1)) (fewer k.0 k.1)
       | inr busy ↦ same_sum (sum_by chain_bytes (present m.chains)) (sum_by chain_bytes (present l.chains)) (sum_by chain_bytes (present n.chains)) (live_bytes m.region) (live_bytes n.region) old_live new_live
@@ -156,7 +156,7 @@ module _ (m l q n : Memory) (s : Evicted) (w : Member) (id : ℕ) (t : IsFrontLo
         (rule : IsRecency q) (mid_versions : (i j : ℕ) → OfVersion q i j (λ k v. IsVersion v)) (new_live : live_bytes n.region ≡ sum_by chain_bytes (present n.chains)) where
       less : (k : KeptChain) (may : MayBeListed k.chain w.version w.position) → chain_at m w.chain ≡ Some k → sum_by chain_bytes (present m.chains) ≤ sum_by chain_bytes (present l.chains) + S / 8
       less k may there =
-          subst (λ cs. sum_by chain_bytes (present m.chains) ≤ sum_by chain_bytes (present cs) + S / 8) (sym (t.changed.chains ∙ ap (λ o. put w.chain (option_map (on_shown (on_version_of w.version (evicted_at w.position))) o) m.chains) there))
+          subst (λ cs. sum_by chain_bytes (present m.chains) ≤ sum_by chain_bytes (present cs) + S / 8) (sym (t.changed.chains ∙ ap (λ o. put_at_number w.chain (option_map (on_shown (on_version_of w.version (evicted_at w.position))) o) m.chains) there))
           (put-lost m.chains w.chain k (on_shown (on_version_of w.version (evicted_at w.position)) k) (S / 8) there
           (chain-lost k w.version may.version (evicted_at w.position) (S / 8) may.number
           (version-lost S k.chain.versions (fit_of S (chain_at m w.chain) k (fit w.chain) there) may.version (subst (λ vs. Contains vs may.version) (sym may.number.split) (elem-here may.number.older may.number.newer may.version))
@@ -169,7 +169,7 @@ module _ (m l q n : Memory) (s : Evicted) (w : Member) (id : ℕ) (t : IsFrontLo
             let chains = ap (λ cs. sum_by chain_bytes (present cs)) d.chains in
             let taken = put-gone l.chains w.chain (on_shown (on_version_of w.version (evicted_at w.position)) k.0) (lost_at k.0 k.1) in
             let bare = idle-bytes q id (on_shown (on_version_of w.version (evicted_at w.position)) k.0) (counted_at k.0 k.1) rule mid_versions (idle_now k.0 i) in
-            gone_sum (sum_by chain_bytes (present m.chains)) (sum_by chain_bytes (present l.chains)) (sum_by chain_bytes (present (put w.chain None l.chains))) (chain_bytes (on_shown (on_version_of w.version (evicted_at w.position)) k.0))
+            gone_sum (sum_by chain_bytes (present m.chains)) (sum_by chain_bytes (present l.chains)) (sum_by chain_bytes (present (put_at_number w.chain None l.chains))) (chain_bytes (on_shown (on_version_of w.version (evicted_at w.position)) k.0))
             (live_bytes m.region) (live_bytes n.region) (S / 8) (length (on_version w.version (evicted_at w.position) k.0.chain.versions)) (versions_of m) (versions_of n) old_live (new_live ∙ chains) taken bare (versions_gone k.0 k.1 i) drop
         | inr busy ↦
             let same = stays_now k.0 k.1 busy in

@@ -12,7 +12,7 @@ use Rattle.rc_rowcode.specs.laws.Codecs.{pos_codec}
 use Rattle.rc_rowcode.specs.laws.Read.{one_spelling}
 use Rattle.rc_core.specs.declared.entries.Entry.{Entry}
 use Rattle.rc_core.specs.AtPlace.{HasEntryAt}
-use Rattle.rc_core.specs.Version.{Ascend, EndsWithDummy, IsVersion, On, Version, end_position, seen}
+use Rattle.rc_core.specs.Version.{Ascend, EndsWithDummy, IsVersion, On, Version, end_position, finding_in}
 use Rattle.rc_core.specs.laws.Placed.{ahead_of, not_end}
 use Rattle.rc_core.specs.laws.Spots.{ascend-tail}
 use Rattle.rc_core.specs.laws.Surgery.{seen-on}
@@ -56,11 +56,11 @@ end_row (e ∷ f ∷ es) y a h on is = elim (elem-cases e y (f ∷ es) on) [
 ]
 
 -- what a version says at the position of an entry is its row
-pub row-there : (v : Version) (y : Entry) (x : Pos) → IsVersion v → Contains v.entries y → y.position ≡ x → (seen (On x) v.entries).row ≡ y.row
+pub row-there : (v : Version) (y : Entry) (x : Pos) → IsVersion v → Contains v.entries y → y.position ≡ x → (finding_in (On x) v.entries).row ≡ y.row
 row-there v y x i on is =
     let s = elem-split v.entries y on in
-    subst (λ z. (seen (On z) v.entries).row ≡ y.row) is
-    (subst (λ es. (seen (On y.position) es).row ≡ y.row) (sym s.2) (ap (λ f. f.row) (seen-on s.0 y s.1 (subst Ascend s.2 i.ascend))))
+    subst (λ z. (finding_in (On z) v.entries).row ≡ y.row) is
+    (subst (λ es. (finding_in (On y.position) es).row ≡ y.row) (sym s.2) (ap (λ f. f.row) (seen-on s.0 y s.1 (subst Ascend s.2 i.ascend))))
 
 pub end-row : (v : Version) (y : Entry) → IsVersion v → Contains v.entries y → y.position ≡ end_position → y.row ≡ None
 end-row v y i on is = end_row v.entries y i.ascend i.ends on is

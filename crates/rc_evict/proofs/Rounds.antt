@@ -7,7 +7,7 @@ use Rattle.lsa_store.specs.declared.place.Ref.{Ref}
 use Rattle.rc_memory.specs.declared.counts.Counts.{Counts}
 use Rattle.rc_memory.specs.Memory.{IsUntouched, KeptChain, Member, Memory, chain_at}
 use Rattle.rc_memory.specs.Recency.{MayBeListed}
-use Rattle.rc_memory.specs.Changes.{member}
+use Rattle.rc_memory.specs.Changes.{member_at}
 use Rattle.rc_chain.specs.Lives.{IsIdle}
 use Rattle.rc_evict.specs.declared.evicting.Evicted.{Evicted}
 use Rattle.rc_evict.specs.Crowding.{IsCrowded, IsNearlyFull, LosesWhereCrowded, version_count, versions_of}
@@ -50,7 +50,7 @@ evicted_moved went gone old mid new a u = record {
   absent = λ id on. ap (λ cs. slice_index_or cs id None) u.chains ∙ a.absent id on;
   idle = λ id on. idle_moved id (chain_at old id) (a.idle id on);
   cause = a.cause;
-  kept = λ w k on off there i. a.kept w k on off there (record { cached = i.cached; settled = i.settled; unpinned = i.unpinned; unlisted = λ j at listed. i.unlisted j at (subst (λ l. Contains l (member w.chain j at)) (sym u.recency) listed) });
+  kept = λ w k on off there i. a.kept w k on off there (record { cached = i.cached; settled = i.settled; unpinned = i.unpinned; unlisted = λ j at listed. i.unlisted j at (subst (λ l. Contains l (member_at w.chain j at)) (sym u.recency) listed) });
   once = a.once;
   dropped = u.dropped ∙ a.dropped;
   counts = u.counts ∙ a.counts;
@@ -58,7 +58,7 @@ evicted_moved went gone old mid new a u = record {
   where
     idle_moved : (id : ℕ) (o : Option KeptChain) → IsSomeAnd o (λ k. IsIdle mid id k.chain) → IsSomeAnd o (λ k. IsIdle new id k.chain)
     idle_moved id None h = h
-    idle_moved id (Some k) i = record { cached = i.cached; settled = i.settled; unpinned = i.unpinned; unlisted = λ j at listed. i.unlisted j at (subst (λ l. Contains l (member id j at)) u.recency listed) }
+    idle_moved id (Some k) i = record { cached = i.cached; settled = i.settled; unpinned = i.unpinned; unlisted = λ j at listed. i.unlisted j at (subst (λ l. Contains l (member_at id j at)) u.recency listed) }
 
 moved_sum : (least less a b u v w h i j : ℕ) → least + 152 * u + h < a + less + 152 * (w + 0) + i → b ≡ a → v ≡ u → j ≡ i → least + 152 * v + h < b + less + 152 * (w + 0) + j
 moved_sum least less a b u v w h i j c p q r = omega (arith, c, p, q, r)

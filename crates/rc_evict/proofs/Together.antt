@@ -6,11 +6,11 @@ use Rattle.std.proofs.lemmas.List.{append-nil}
 use Rattle.std.proofs.lemmas.List.Elements.{Contains-append_cases, Contains-append_left, Contains-append_right}
 use Rattle.lsa_pool.specs.laws.Usages.{decided}
 use Rattle.rc_partition.specs.laws.Lists.{elem-cases, elem-first, elem-none, once-both, once-cons, once-none}
-use Rattle.rc_registry.specs.Registry.{put}
+use Rattle.rc_registry.specs.Registry.{put_at_number}
 use Rattle.rc_memory.specs.declared.counts.Counts.{Counts}
 use Rattle.rc_memory.specs.Memory.{IsUntouched, KeptChain, Member, Memory, chain_at, on_shown, on_version_of}
 use Rattle.rc_memory.specs.Recency.{MayBeListed}
-use Rattle.rc_memory.specs.Changes.{IsVersionChanged, member}
+use Rattle.rc_memory.specs.Changes.{IsVersionChanged, member_at}
 use Rattle.rc_memory.specs.laws.Places.{same_some}
 use Rattle.rc_memory.specs.laws.Put.{put-at, put-beside}
 use Rattle.rc_chain.specs.Lives.{IsChainDropped, IsIdle}
@@ -90,7 +90,7 @@ module _ (went more : List Member) (gone others : List ℕ) (old mid new : Memor
 
   both_idle : (id : ℕ) → Contains (gone ++ others) id → IsSomeAnd (chain_at old id) (λ k. IsIdle new id k.chain)
   both_idle id on = elim (Contains-append_cases gone others id on) [
-    | inl first ↦ some_map (λ k. IsIdle mid id k.chain) (λ k. IsIdle new id k.chain) (chain_at old id) (λ k i. idle-alike mid new id k k (same-use k) (λ j at. shorter (member id j at)) i) (a.idle id first)
+    | inl first ↦ some_map (λ k. IsIdle mid id k.chain) (λ k. IsIdle new id k.chain) (chain_at old id) (λ k i. idle-alike mid new id k k (same-use k) (λ j at. shorter (member_at id j at)) i) (a.idle id first)
     | inr later ↦
         some_map (λ k. IsIdle new id (evicted_of id went k).chain) (λ k. IsIdle new id k.chain) (chain_at old id)
         (λ k i. idle-alike new new id k (evicted_of id went k) (use-kept id went k) (λ j at on_list. on_list) i)
@@ -118,8 +118,8 @@ module _ (went more : List Member) (gone others : List ℕ) (old mid new : Memor
         cached = i.cached;
         settled = i.settled;
         unpinned = i.unpinned;
-        unlisted = λ j at listed. elim (Contains-append_cases more new.recency (member w.chain j at) (subst (λ l. Contains l (member w.chain j at)) b.recency listed)) [
-          | inl early ↦ none (member w.chain j at) early refl
+        unlisted = λ j at listed. elim (Contains-append_cases more new.recency (member_at w.chain j at) (subst (λ l. Contains l (member_at w.chain j at)) b.recency listed)) [
+          | inl early ↦ none (member_at w.chain j at) early refl
           | inr late ↦ i.unlisted j at late
         ];
       })
@@ -167,9 +167,9 @@ module _ (place : Member) (old lost new : Memory) (k : KeptChain) (these : Membe
     recency = front ∙ ap (λ l. place ∷ l) (sym d.recency);
     chains = λ id off. let ne : id ≢ place.chain = λ e. off (subst (Contains (place.chain ∷ [])) (sym e) (elem-first place.chain [])) in
         ap (λ cs. slice_index_or cs id None) d.chains ∙ put-beside lost.chains place.chain None id ne ∙ lost_other id ne ∙ map_other id (chain_at old id) ne;
-    absent = λ id on. let e = only_number id on in ap (λ cs. slice_index_or cs id None) d.chains ∙ ap (λ n. slice_index_or (put place.chain None lost.chains) n None) (sym e) ∙ put-at lost.chains place.chain None;
+    absent = λ id on. let e = only_number id on in ap (λ cs. slice_index_or cs id None) d.chains ∙ ap (λ n. slice_index_or (put_at_number place.chain None lost.chains) n None) (sym e) ∙ put-at lost.chains place.chain None;
     idle = λ id on. let e = only_number id on in subst (λ n. IsSomeAnd (chain_at old n) (λ x. IsIdle new n x.chain)) e
-        (subst (λ (o : Option KeptChain). IsSomeAnd o (λ x. IsIdle new place.chain x.chain)) (sym there) (idle-alike (eviction_counted lost) new place.chain k k (same-use k) (λ j at listed. subst (λ l. Contains l (member place.chain j at)) d.recency listed) i));
+        (subst (λ (o : Option KeptChain). IsSomeAnd o (λ x. IsIdle new place.chain x.chain)) (sym there) (idle-alike (eviction_counted lost) new place.chain k k (same-use k) (λ j at listed. subst (λ l. Contains l (member_at place.chain j at)) d.recency listed) i));
     cause = λ id on. (place, elem-first place [], only_number id on);
     kept = λ w x on off. absurd (off (subst (λ (y : Member). Contains (place.chain ∷ []) y.chain) (only_this w on) (elem-first place.chain [])));
     once = once-cons place.chain [] (elem-none place.chain) once-none;
@@ -195,7 +195,7 @@ module _ (place : Member) (old lost new : Memory) (k : KeptChain) (these : Membe
         let e = only_this w on in let here : chain_at old place.chain ≡ Some x = ap (λ (y : Member). chain_at old y.chain) e ∙ is in let one : x ≡ k = same_some x k (sym here ∙ there) in
         busy (subst (λ (y : KeptChain). IsIdle (eviction_counted lost) place.chain y.chain) one
         (subst (λ (y : Member). IsIdle (eviction_counted lost) y.chain x.chain) (sym e)
-        (idle-alike new (eviction_counted lost) w.chain x x (same-use x) (λ j at listed. subst (λ (m : Memory). Contains m.recency (member w.chain j at)) (sym same) listed) i)));
+        (idle-alike new (eviction_counted lost) w.chain x x (same-use x) (λ j at listed. subst (λ (m : Memory). Contains m.recency (member_at w.chain j at)) (sym same) listed) i)));
     once = once-none;
     dropped = ap (λ (m : Memory). m.dropped) same ∙ changed.dropped ∙ sym (append-nil old.dropped);
     counts = ap (λ (m : Memory). m.counts) same ∙ ap one_eviction_more changed.counts;

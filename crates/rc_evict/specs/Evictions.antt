@@ -13,9 +13,9 @@ use Rattle.rc_position.specs.Position.{Clustered, Place, pos_cmp}
 use Rattle.rc_core.specs.Change.{drop_at, lose_last_gap}
 use Rattle.rc_core.specs.Chains.{Shown}
 use Rattle.rc_core.specs.Continuity.{with_entries, without_statics}
-use Rattle.rc_core.specs.Version.{On, Version, end_position, seen}
+use Rattle.rc_core.specs.Version.{On, Version, end_position, finding_in}
 use Rattle.rc_memory.specs.declared.counts.Counts.{Counts}
-use Rattle.rc_memory.specs.Changes.{AtAlone, IsVersionChanged, Nowhere, OfVersion, member}
+use Rattle.rc_memory.specs.Changes.{AtAlone, IsVersionChanged, Nowhere, OfVersion, member_at}
 use Rattle.rc_memory.specs.Memory.{KeptChain, Member, Memory, chain_at, on_shown, on_version_of, raised_by}
 use Rattle.rc_memory.specs.Recency.{MayBeListed}
 use Rattle.rc_chain.specs.Lives.{IsChainDropped, IsIdle}
@@ -32,8 +32,8 @@ evicted_at (Some x) v = with_entries (cond (eq_by_cmp pos_cmp x end_position) (l
 
 -- this sort of object stands at a place of a version that has one there
 abbrev pub IsSort : Evicted → Option Pos → Version → Type 0
-IsSort Row at v = (x : Pos) × (at ≡ Some x) × (x ≢ end_position) × IsSome (seen (On x) v.entries).row
-IsSort Dummy at v = (x : Pos) × (at ≡ Some x) × (x ≢ end_position) × ((seen (On x) v.entries).row ≡ None)
+IsSort Row at v = (x : Pos) × (at ≡ Some x) × (x ≢ end_position) × IsSome (finding_in (On x) v.entries).row
+IsSort Dummy at v = (x : Pos) × (at ≡ Some x) × (x ≢ end_position) × ((finding_in (On x) v.entries).row ≡ None)
 IsSort Static at v = at ≡ None
 IsSort EndDummy at v = at ≡ Some end_position
 
@@ -112,4 +112,4 @@ pub record IsRoomMade (S : ℕ) (old new : Memory) : Type 0 where
 
 -- the entry at the place of the update that stands in a chain, where that is clustered, is out of this list
 abbrev pub IsPlaceUnlisted : Place → ℕ → Shown → List Member → Type 0
-IsPlaceUnlisted p id c list = (x : Pos) (j : ℕ) → p ≡ Clustered x → c.updating ≡ true → suc j ≡ length c.versions → Contains list (member id j (Some x)) → ⊥
+IsPlaceUnlisted p id c list = (x : Pos) (j : ℕ) → p ≡ Clustered x → c.updating ≡ true → suc j ≡ length c.versions → Contains list (member_at id j (Some x)) → ⊥

@@ -20,7 +20,7 @@ use Rattle.rc_memory.specs.Memory.{IsSnapshotTaken, KeptChain, Memory, chain_at,
 use Rattle.rc_memory.specs.laws.Put.{put-at}
 use Rattle.rc_memtable.specs.Writes.{AreSmall}
 use Rattle.rc_evict.specs.Evictions.{IsPlaceUnlisted}
-use Rattle.rc_populate.specs.Filling.{IsEntryOpened, chain_opened, given}
+use Rattle.rc_populate.specs.Filling.{IsEntryOpened, chain_opened, filled_statics}
 use Rattle.rc_filler.specs.Stands.{HoldsRowsOf, StandsForWrites}
 use Rattle.rc_filler.proofs.FromSource.{static-of}
 
@@ -63,7 +63,7 @@ module _ (laws : TakenLaws) (S : ℕ) (schema : SchemaValue) (limits : IsTrue (i
   module _ (opened_form : (p : Place) (pt : Option Tomb) (statics : Option Row) (phase : ℕ) → IsChain (at_place p (chain_opened pt statics phase).chain))
       (opened_chain : (below : ℕ → List Mutation) (p : Place) (pt : Option Tomb) (statics : Option Row) (phase : ℕ) → pt ≡ source_at_head (below phase) → joined_row (option_to_list statics) ≡ source_at_static (below phase) → IsChainContinuous below (at_place p (chain_opened pt statics phase).chain))
       (opened_at : (id : ℕ) (pt : Option Tomb) (statics : Option Row) (phase : ℕ) (old new : Memory) → IsEntryOpened id pt statics phase old new → chain_at new id ≡ Some (chain_opened pt statics phase))
-      (given_is : (writes : List Mutation) → joined_row (option_to_list (given (source_at_static writes))) ≡ source_at_static writes) where
+      (given_is : (writes : List Mutation) → joined_row (option_to_list (filled_statics (source_at_static writes))) ≡ source_at_static writes) where
     opened_sound : (pt : Option Tomb) (statics : Option Row) (phase : ℕ) → IsSoundChain (chain_opened pt statics phase).chain
     opened_sound pt statics phase = record {
       some = omega arith;
@@ -74,19 +74,19 @@ module _ (laws : TakenLaws) (S : ℕ) (schema : SchemaValue) (limits : IsTrue (i
       unpinned = λ up j on. absurd on;
     }
 
-    statics_rows : (writes : List Mutation) → All (ChangeFits schema) writes → IfSome (given (source_at_static writes)) (λ row. IsStaticOf schema row × IsRow row)
+    statics_rows : (writes : List Mutation) → All (ChangeFits schema) writes → IfSome (filled_statics (source_at_static writes)) (λ row. IsStaticOf schema row × IsRow row)
     statics_rows writes fit = elim (is_written (source_at_static writes)) as (λ b. IfSome (cond b (Some (source_at_static writes)) None) (λ row. IsStaticOf schema row × IsRow row)) [
       | true ↦ static-of schema writes fit (source_at_static writes) refl
       | false ↦ tt
     ]
 
-    opened_rows : (writes : List Mutation) (phase : ℕ) → All (ChangeFits schema) writes → HoldsRowsOf schema (opened_version (source_at_head writes) (given (source_at_static writes)) phase)
+    opened_rows : (writes : List Mutation) (phase : ℕ) → All (ChangeFits schema) writes → HoldsRowsOf schema (opened_version (source_at_head writes) (filled_statics (source_at_static writes)) phase)
     opened_rows writes phase fit = record { entries = (tt, tt); statics = statics_rows writes fit }
 
-    pub opened-stands : (writes : List Mutation) (old mid new : Memory) (id pin phase of_pin : ℕ) → All (ChangeFits schema) writes → IsEntryOpened id (source_at_head writes) (given (source_at_static writes)) phase old mid → IsSnapshotTaken mid new id pin of_pin → StandsForWrites S new id pin writes
+    pub opened-stands : (writes : List Mutation) (old mid new : Memory) (id pin phase of_pin : ℕ) → All (ChangeFits schema) writes → IsEntryOpened id (source_at_head writes) (filled_statics (source_at_static writes)) phase old mid → IsSnapshotTaken mid new id pin of_pin → StandsForWrites S new id pin writes
     opened-stands writes old mid new id pin phase of_pin fit opened taken =
         let pt = source_at_head writes in
-        let statics = given (source_at_static writes) in
+        let statics = filled_statics (source_at_static writes) in
         taken-stands (λ (x : ℕ). writes) Head mid new id pin of_pin (chain_opened pt statics phase) writes (opened_at id pt statics phase old mid opened) refl refl (opened_sound pt statics phase) (opened_form Head pt statics phase)
         (opened_chain (λ (x : ℕ). writes) Head pt statics phase refl (given_is writes))
         (λ x j is up last on. (let clash : false ≡ true = up in cc))

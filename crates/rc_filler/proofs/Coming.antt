@@ -8,7 +8,7 @@ use Rattle.rc_position.specs.Position.{Place, row_pos}
 use Rattle.rc_mutation.specs.declared.mutations.Mutation.{Mutation}
 use Rattle.rc_mutation.specs.Source.{source_at}
 use Rattle.rc_core.specs.declared.entries.ChainKind.TheVariants.{Cache}
-use Rattle.rc_core.specs.Chain.{IsKnown, content, flagged}
+use Rattle.rc_core.specs.Chain.{IsKnown, content, has_flag}
 use Rattle.rc_core.specs.Chains.{IsChainContinuous, IsPinned, Shown, at_place, phase_at, upto}
 use Rattle.rc_core.specs.Continuity.{IsContinuous, static_states}
 use Rattle.rc_core.specs.Steps.{IsChain, on_newest}
@@ -123,7 +123,7 @@ module _ (there : (S : ℕ) (old new : Memory) (id pin : ℕ) → IsRoomMade S o
           let q = OfStatics row in
           let after = filled-there laws q f.chain f.pin mid n filled s.snapshot in
           let known = filled-known laws q f.chain f.pin mid n filled S writes s said in (
-            as-seen n f.chain f.pin after (λ kind vs. IsTrue (flagged kind (static_states vs))) known,
+            as-seen n f.chain f.pin after (λ kind vs. IsTrue (has_flag kind (static_states vs))) known,
             as-seen n f.chain f.pin after (λ kind vs. (content (static_states vs)).0 ≡ row) (filled-statics laws q f.chain f.pin mid n filled S writes s said source known ∙ said),
           )
 

@@ -9,7 +9,7 @@ use Rattle.rc_position.specs.Position.{pos_cmp}
 use Rattle.rc_core.specs.declared.entries.Entry.{Entry}
 use Rattle.rc_core.specs.declared.entries.Mark.{Mark}
 use Rattle.rc_core.specs.AtPlace.{EachEntry}
-use Rattle.rc_core.specs.Change.{dummy, lose_last_gap, lost_mark, split, split_by, take_out, with_first_gap, with_gap}
+use Rattle.rc_core.specs.Change.{dummy, gap_split, lose_last_gap, lost_mark, split_by, take_out, with_first_gap, with_gap}
 use Rattle.rc_core.specs.Continuity.{EachOf}
 use Rattle.rc_core.specs.Steps.{on_newest, on_version}
 use Rattle.rc_core.specs.Version.{Version}
@@ -29,9 +29,9 @@ module _ (P : Entry → Type 0) (x : Pos) (made : (m : Mark) → P (dummy x m)) 
   split-by-each Equal e es rest h k = h
   split-by-each Greater e es rest h k = (h.0, k)
 
-  pub split-each : (es : List Entry) → EachEntry P es → EachEntry P (split x es)
+  pub split-each : (es : List Entry) → EachEntry P es → EachEntry P (gap_split x es)
   split-each [] h = tt
-  split-each (e ∷ es) h = split-by-each (pos_cmp x e.position) e es (split x es) h (split-each es h.1)
+  split-each (e ∷ es) h = split-by-each (pos_cmp x e.position) e es (gap_split x es) h (split-each es h.1)
 
 module _ (P : Entry → Type 0) (gaps : (m : Mark) (e : Entry) → P e → P (with_gap m e)) where
   first-gap-each : (m : Mark) (es : List Entry) → EachEntry P es → EachEntry P (with_first_gap m es)

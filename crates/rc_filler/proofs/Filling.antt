@@ -16,14 +16,14 @@ use Rattle.rc_mutation.specs.declared.mutations.Mutation.{Mutation}
 use Rattle.rc_mutation.specs.Source.{SameSource, source_at, source_at_static}
 use Rattle.rc_writes.specs.Allowed.{ChangeFits}
 use Rattle.rc_core.specs.declared.entries.ChainKind.TheVariants.{Cache}
-use Rattle.rc_core.specs.Chain.{IsKnown, content, flagged, states_at}
+use Rattle.rc_core.specs.Chain.{IsKnown, content, has_flag, states_at}
 use Rattle.rc_core.specs.Chains.{IsChainContinuous, IsPinned, Shown, at_place, phase_at, phases, upto}
 use Rattle.rc_core.specs.Continuity.{IsContinuous, fill_statics, static_states}
 use Rattle.rc_core.specs.Steps.{IsChain, MayPopulate, gap_filled, on_newest, row_filled}
 use Rattle.rc_core.specs.Version.{On, Version, end_position}
 use Rattle.rc_memory.specs.Memory.{KeptChain, Memory, chain_at, on_chain, on_shown}
 use Rattle.rc_chain.specs.laws.PlaceBeside.{anywhere-fills, anywhere-same, updating-or-not}
-use Rattle.rc_populate.specs.Filling.{given, on_newest_of}
+use Rattle.rc_populate.specs.Filling.{filled_statics, on_newest_of}
 use Rattle.rc_filler.specs.Stands.{HasCacheSnapshot, HoldsRowsOf, StandsForWrites}
 use Rattle.rc_filler.specs.Fills.{IsPortion, IsPortionFilled, OfGap, OfRow, OfStatics, Portion, SayPortion, filled_with}
 use Rattle.rc_filler.proofs.Entries.{newest-each}
@@ -34,7 +34,7 @@ use Rattle.rc_filler.proofs.Seen.{may-there, pins-there}
 -- what is known of fills
 pub record FillLaws : Type 0 where
   pub here : (id : ℕ) (f : Version → Version) (old new : Memory) (k : KeptChain) → new.chains ≡ on_chain id (on_shown (on_newest_of f)) old.chains → chain_at old id ≡ Some k → chain_at new id ≡ Some (on_shown (on_newest_of f) k)
-  pub given_is : (writes : List Mutation) → joined_row (option_to_list (given (source_at_static writes))) ≡ source_at_static writes
+  pub given_is : (writes : List Mutation) → joined_row (option_to_list (filled_statics (source_at_static writes))) ≡ source_at_static writes
   pub gap_form : (p : Place) (c : Shown) (j : ℕ) (from to : Pos) (tomb : Option Tomb) → MayPopulate (at_place p c) j → IsChain (at_place p c) → IsChain (at_place p (on_newest_of (gap_filled from to tomb) c))
   pub gap_chain : (below : ℕ → List Mutation) (p : Place) (c : Shown) (j : ℕ) (from to : Pos) (tomb : Option Tomb) → MayPopulate (at_place p c) j → IsChain (at_place p c) →
       ((x : Pos) → covers from to x ≡ true → source_at (below (phase_at c.versions j)) x ≡ (empty_row, tomb)) → IsChainContinuous below (at_place p c) → IsChainContinuous below (at_place p (on_newest_of (gap_filled from to tomb) c))
@@ -50,7 +50,7 @@ pub record FillLaws : Type 0 where
   pub statics_form : (p : Place) (c : Shown) (j : ℕ) (statics : Option Row) → MayPopulate (at_place p c) j → IsChain (at_place p c) → IsChain (at_place p (on_newest_of (fill_statics statics) c))
   pub statics_chain : (below : ℕ → List Mutation) (p : Place) (c : Shown) (j : ℕ) (statics : Option Row) → MayPopulate (at_place p c) j → IsChain (at_place p c) →
       joined_row (option_to_list statics) ≡ source_at_static (below (phase_at c.versions j)) → IsChainContinuous below (at_place p c) → IsChainContinuous below (at_place p (on_newest_of (fill_statics statics) c))
-  pub statics_known : (c : Shown) (j : ℕ) (statics : Option Row) → MayPopulate (at_place Head c) j → IsTrue (flagged Cache (static_states (upto (on_newest_of (fill_statics statics) c).versions j)))
+  pub statics_known : (c : Shown) (j : ℕ) (statics : Option Row) → MayPopulate (at_place Head c) j → IsTrue (has_flag Cache (static_states (upto (on_newest_of (fill_statics statics) c).versions j)))
   pub statics_kept : (c : Shown) (j : ℕ) (statics : Option Row) (x : Pos) → MayPopulate (at_place Head c) j → IsKnown Cache (upto c.versions j) x → IsKnown Cache (upto (on_newest_of (fill_statics statics) c).versions j) x
 
 -- ---- what is said
@@ -102,16 +102,16 @@ portion-rows schema writes fit (OfStatics row) whole said v h = let is = static-
 abbrev pub KnownIn : Portion → Shown → ℕ → Type 0
 KnownIn (OfGap from to tomb) c j = (x : Pos) → covers from to x ≡ true → IsKnown Cache (upto c.versions j) x
 KnownIn (OfRow key row tomb) c j = IsKnown Cache (upto c.versions j) (row_pos key)
-KnownIn (OfStatics row) c j = IsTrue (flagged Cache (static_states (upto c.versions j)))
+KnownIn (OfStatics row) c j = IsTrue (has_flag Cache (static_states (upto c.versions j)))
 
 module _ (laws : FillLaws) where
   portion-form : (q : Portion) → IsPortion q → (p : Place) (c : Shown) (j : ℕ) → MayPopulate (at_place p c) j → IsChain (at_place p c) → IsChain (at_place p (on_newest_of (filled_with q) c))
   portion-form (OfGap from to tomb) whole p c j may ch = laws.gap_form p c j from to tomb may ch
   portion-form (OfRow key row tomb) whole p c j may ch = laws.row_form p c j (row_pos key) row tomb may (before-end key) ch
-  portion-form (OfStatics row) whole p c j may ch = laws.statics_form p c j (given row) may ch
+  portion-form (OfStatics row) whole p c j may ch = laws.statics_form p c j (filled_statics row) may ch
 
-  statics-given : (writes : List Mutation) (row : Row) → source_at_static writes ≡ row → joined_row (option_to_list (given row)) ≡ source_at_static writes
-  statics-given writes row said = ap (λ r. joined_row (option_to_list (given r))) (sym said) ∙ laws.given_is writes
+  statics-given : (writes : List Mutation) (row : Row) → source_at_static writes ≡ row → joined_row (option_to_list (filled_statics row)) ≡ source_at_static writes
+  statics-given writes row said = ap (λ r. joined_row (option_to_list (filled_statics r))) (sym said) ∙ laws.given_is writes
 
   gap-said : (writes : List Mutation) (from to : Pos) (tomb : Option Tomb) → SayPortion writes (OfGap from to tomb) → (x : Pos) → covers from to x ≡ true → source_at writes x ≡ (empty_row, tomb)
   gap-said writes from to tomb said x inside = let both = both-true (is_le (pos_cmp from x)) (is_lt (pos_cmp x to)) inside in said x both.0 (less-is (pos_cmp x to) both.1)
@@ -120,18 +120,18 @@ module _ (laws : FillLaws) where
       IsChainContinuous below (at_place p c) → IsChainContinuous below (at_place p (on_newest_of (filled_with q) c))
   portion-chain (OfGap from to tomb) whole below p c j may ch said on = laws.gap_chain below p c j from to tomb may ch (gap-said (below (phase_at c.versions j)) from to tomb said) on
   portion-chain (OfRow key row tomb) whole below p c j may ch said on = laws.row_chain below p c j (row_pos key) row tomb may ch said whole on
-  portion-chain (OfStatics row) whole below p c j may ch said on = laws.statics_chain below p c j (given row) may ch (statics-given (below (phase_at c.versions j)) row said) on
+  portion-chain (OfStatics row) whole below p c j may ch said on = laws.statics_chain below p c j (filled_statics row) may ch (statics-given (below (phase_at c.versions j)) row said) on
 
   module _ (below : ℕ → List Mutation) (c : Shown) (j : ℕ) (may : MayPopulate (at_place Head c) j) (ch : IsChain (at_place Head c)) (on : IsChainContinuous below (at_place Head c)) where
     pub portion-known : (q : Portion) → IsPortion q → SayPortion (below (phase_at c.versions j)) q → KnownIn q (on_newest_of (filled_with q) c) j
     portion-known (OfGap from to tomb) whole said = λ x inside. laws.gap_known c j from to tomb x may ch inside
     portion-known (OfRow key row tomb) whole said = laws.row_known below c j (row_pos key) row tomb may ch said whole on
-    portion-known (OfStatics row) whole said = laws.statics_known c j (given row) may
+    portion-known (OfStatics row) whole said = laws.statics_known c j (filled_statics row) may
 
     pub portion-kept : (q : Portion) → IsPortion q → SayPortion (below (phase_at c.versions j)) q → (x : Pos) → IsKnown Cache (upto c.versions j) x → IsKnown Cache (upto (on_newest_of (filled_with q) c).versions j) x
     portion-kept (OfGap from to tomb) whole said x k = laws.gap_kept c j from to tomb x may ch k
     portion-kept (OfRow key row tomb) whole said x k = laws.row_kept below c j (row_pos key) row tomb may ch said whole on x k
-    portion-kept (OfStatics row) whole said x k = laws.statics_kept c j (given row) x may k
+    portion-kept (OfStatics row) whole said x k = laws.statics_kept c j (filled_statics row) x may k
 
   -- ---- a snapshot's chain filled
 
@@ -198,5 +198,5 @@ module _ (laws : FillLaws) where
         pub filled-content : (x : Pos) → IsKnown Cache (upto (on_newest (filled_with q) chain_filled.versions) s.snapshot.number) x → content (states_at (On x) (upto (on_newest (filled_with q) chain_filled.versions) s.snapshot.number)) ≡ source_at writes x
         filled-content x k = seen_then.clustered x tt k.at ∙ source_then.clustered x
 
-        pub filled-statics : IsTrue (flagged Cache (static_states (upto (on_newest (filled_with q) chain_filled.versions) s.snapshot.number))) → (content (static_states (upto (on_newest (filled_with q) chain_filled.versions) s.snapshot.number))).0 ≡ source_at_static writes
+        pub filled-statics : IsTrue (has_flag Cache (static_states (upto (on_newest (filled_with q) chain_filled.versions) s.snapshot.number))) → (content (static_states (upto (on_newest (filled_with q) chain_filled.versions) s.snapshot.number))).0 ≡ source_at_static writes
         filled-statics known = ap (λ (a : Row × Option Tomb). a.0) (seen_then.statics tt known) ∙ source_then.statics

@@ -23,7 +23,7 @@ use Rattle.rc_mutation.specs.Fragments.{is_written}
 use Rattle.rc_core.specs.declared.entries.Entry.{Entry}
 use Rattle.rc_core.specs.declared.entries.Flag.TheVariants.{Known}
 use Rattle.rc_core.specs.AtPlace.{EachEntry}
-use Rattle.rc_core.specs.Change.{changed, drop_at, joined_onto, known_with, lose_last_gap, lost_mark, mark, split, with_mark, with_row}
+use Rattle.rc_core.specs.Change.{drop_at, entry_changed, gap_split, joined_onto, known_with, lose_last_gap, lost_mark, mark, with_mark, with_row}
 use Rattle.rc_core.specs.Continuity.{EachOf, fill_statics, joined_options}
 use Rattle.rc_core.specs.Steps.{gap_filled, row_filled, row_joined}
 use Rattle.rc_core.specs.Version.{Version, end_position}
@@ -32,7 +32,7 @@ use Rattle.rc_partition.specs.laws.Lists.{elem-first, elem-later}
 use Rattle.rc_memory.specs.Room.{FitTogether, HasRowAt, HasStaticRow}
 use Rattle.rc_memtable.specs.Writes.{AreSmall}
 use Rattle.rc_evict.specs.Evictions.{evicted_at}
-use Rattle.rc_populate.specs.Filling.{given}
+use Rattle.rc_populate.specs.Filling.{filled_statics}
 use Rattle.rc_filler.specs.Stands.{HasRowOf, HoldsRowsOf}
 use Rattle.rc_filler.proofs.Entries.{each-map, entry-in, is-tied, last-gap-each, split-each, taken-each, version-in}
 
@@ -66,8 +66,8 @@ module _ (schema : SchemaValue) where
 
   pub gap-rows : (from to : Pos) (tomb : Option Tomb) (v : Version) → HoldsRowsOf schema v → HoldsRowsOf schema (gap_filled from to tomb v)
   gap-rows from to tomb v h = record {
-    entries = each-map (HasRowOf schema) (changed (λ m. mark Known tomb) from to) (λ e k. k) (split to (split from v.entries))
-        (split-each (HasRowOf schema) to (λ m. tt) (split from v.entries) (split-each (HasRowOf schema) from (λ m. tt) v.entries h.entries));
+    entries = each-map (HasRowOf schema) (entry_changed (λ m. mark Known tomb) from to) (λ e k. k) (gap_split to (gap_split from v.entries))
+        (split-each (HasRowOf schema) to (λ m. tt) (gap_split from v.entries) (split-each (HasRowOf schema) from (λ m. tt) v.entries h.entries));
     statics = h.statics;
   }
 
@@ -95,7 +95,7 @@ module _ (schema : SchemaValue) where
           | true ↦ λ q. joined-entry key row h up e (pos_cmp_same (row_pos key) e.position (is-tied (pos_cmp (row_pos key) e.position) q)) k
           | false ↦ λ q. k
         ] refl)
-        (split (row_pos key) v.entries) (split-each (HasRowOf schema) (row_pos key) (λ m. tt) v.entries is.entries);
+        (gap_split (row_pos key) v.entries) (split-each (HasRowOf schema) (row_pos key) (λ m. tt) v.entries is.entries);
     statics = is.statics;
   }
 
@@ -107,7 +107,7 @@ module _ (schema : SchemaValue) where
     statics = is.statics;
   }
 
-  pub static-rows : (row : Row) → IsStaticOf schema row → IsRow row → (v : Version) → HoldsRowsOf schema v → HoldsRowsOf schema (fill_statics (given row) v)
+  pub static-rows : (row : Row) → IsStaticOf schema row → IsRow row → (v : Version) → HoldsRowsOf schema v → HoldsRowsOf schema (fill_statics (filled_statics row) v)
   static-rows row h up v is = record {
     entries = is.entries;
     statics = elim (is_written row) as (λ b. IfSome (joined_options v.statics (cond b (Some row) None)) (λ r. IsStaticOf schema r × IsRow r)) [

@@ -17,19 +17,19 @@ use Rattle.rc_mutation.specs.Source.{source_at, source_at_static}
 use Rattle.rc_writes.specs.Allowed.{IsRowOf, IsStaticOf}
 use Rattle.rc_core.specs.AtPlace.{EachEntry}
 use Rattle.rc_core.specs.Chains.{IsChainContinuous, Shown, at_place, phase_at}
-use Rattle.rc_core.specs.Change.{split, with_row}
+use Rattle.rc_core.specs.Change.{gap_split, with_row}
 use Rattle.rc_core.specs.Continuity.{EachOf, IsWithin, fill_statics}
 use Rattle.rc_core.specs.Steps.{gap_filled, on_newest, pin_at, row_filled, row_joined}
 use Rattle.rc_core.specs.Version.{On, Version, state_at, static_state}
 use Rattle.rc_version.specs.Versions.{statics_bytes}
-use Rattle.rc_memory.specs.Changes.{AtAlone, IsRenewed, Nowhere, member}
+use Rattle.rc_memory.specs.Changes.{AtAlone, IsRenewed, Nowhere, member_at}
 use Rattle.rc_memory.specs.Kept.{IsSoundChain}
 use Rattle.rc_memory.specs.Memory.{IsVersionAt, KeptChain, Member, Memory, chain_at}
 use Rattle.rc_memory.specs.Room.{ChainsFit, FitTogether}
 use Rattle.rc_memory.specs.laws.At.{number-there}
 use Rattle.rc_memory.specs.laws.Places.{same_some}
 use Rattle.rc_memory.specs.laws.Still.{still-wider}
-use Rattle.rc_populate.specs.Filling.{AreBoundsListed, IsFilled, IsGivenListed, MayFill, OfPinned, given}
+use Rattle.rc_populate.specs.Filling.{AreBoundsListed, IsFilled, IsGivenListed, MayFill, OfPinned, filled_statics}
 use Rattle.rc_filler.specs.Stands.{HasCacheSnapshot, HoldsRowsOf, StandsForWrites}
 use Rattle.rc_filler.specs.Fills.{IsPortionFilled, OfGap, OfRow, OfStatics}
 use Rattle.rc_filler.proofs.Entries.{each-map, entries-all, newest-each, split-each, versions-all}
@@ -86,7 +86,7 @@ module _ (S : ℕ) (m : Memory) (id pin : ℕ) (writes : List Mutation) (s : Sta
     dummies-joined : (v : Version) → AreDummiesSmall S v → AreDummiesSmall S (row_joined (row_pos key) row v)
     dummies-joined v h = each-map (λ e. dummy_size e.position ≤ S / 8) (λ e. cond (eq_by_cmp pos_cmp (row_pos key) e.position) (with_row row e) e)
         (λ e k. elim (eq_by_cmp pos_cmp (row_pos key) e.position) as (λ b. dummy_size (cond b (with_row row e) e).position ≤ S / 8) [ true ↦ k | false ↦ k ])
-        (split (row_pos key) v.entries) (split-each (λ e. dummy_size e.position ≤ S / 8) (row_pos key) (λ mark. here-small) v.entries h)
+        (gap_split (row_pos key) v.entries) (split-each (λ e. dummy_size e.position ≤ S / 8) (row_pos key) (λ mark. here-small) v.entries h)
 
     pub row-fits : ChainsFit S m → OfPinned m id pin (λ k j v. FitTogether S (on_newest (row_joined (row_pos key) row) k.chain.versions))
     row-fits fit = of-snapshot m id pin s.snapshot (λ k j v. FitTogether S (on_newest (row_joined (row_pos key) row) k.chain.versions))
@@ -103,7 +103,7 @@ module _ (S : ℕ) (m : Memory) (id pin : ℕ) (writes : List Mutation) (s : Sta
     pub static-limits : RowFits row
     static-limits = cells_fit true s.schema row.cells s.limits (cells_pass true s.schema row.cells static-schema.0.2)
 
-    pub static-fits-small : statics_bytes (given row) ≤ S / 8
+    pub static-fits-small : statics_bytes (filled_statics row) ≤ S / 8
     static-fits-small =
         let within = static-small s.schema s.limits row static-schema.0 static-schema.1 in
         let small = s.small.statics in
@@ -114,11 +114,11 @@ module _ (S : ℕ) (m : Memory) (id pin : ℕ) (writes : List Mutation) (s : Sta
     static-within law = of-snapshot m id pin s.snapshot (λ k j v. IsWithin (static_state v) (row, None))
         (λ v at. subst (λ (r : Row). IsWithin (static_state v) (r, None)) (s.source.statics ∙ said) (law s.below s.place s.snapshot.chain.chain s.snapshot.number v at s.continuous))
 
-    pub static-fits : ChainsFit S m → OfPinned m id pin (λ k j v. FitTogether S (on_newest (fill_statics (given row)) k.chain.versions))
-    static-fits fit = of-snapshot m id pin s.snapshot (λ k j v. FitTogether S (on_newest (fill_statics (given row)) k.chain.versions))
-        (λ v at. fit-together s.schema s.limits S s.small (on_newest (fill_statics (given row)) s.snapshot.chain.chain.versions)
-        (newest-each (HoldsRowsOf s.schema) (fill_statics (given row)) (static-rows s.schema row static-schema.0 static-schema.1) s.snapshot.chain.chain.versions s.rows)
-        (newest-each (AreDummiesSmall S) (fill_statics (given row)) (λ w k. k) s.snapshot.chain.chain.versions (fit-there fit)))
+    pub static-fits : ChainsFit S m → OfPinned m id pin (λ k j v. FitTogether S (on_newest (fill_statics (filled_statics row)) k.chain.versions))
+    static-fits fit = of-snapshot m id pin s.snapshot (λ k j v. FitTogether S (on_newest (fill_statics (filled_statics row)) k.chain.versions))
+        (λ v at. fit-together s.schema s.limits S s.small (on_newest (fill_statics (filled_statics row)) s.snapshot.chain.chain.versions)
+        (newest-each (HoldsRowsOf s.schema) (fill_statics (filled_statics row)) (static-rows s.schema row static-schema.0 static-schema.1) s.snapshot.chain.chain.versions s.rows)
+        (newest-each (AreDummiesSmall S) (fill_statics (filled_statics row)) (λ w k. k) s.snapshot.chain.chain.versions (fit-there fit)))
 
 -- ---- a portion filled
 
@@ -137,40 +137,40 @@ module _ (m n : Memory) (id pin : ℕ) (h : HasCacheSnapshot m id pin) (may : Ma
   wider f these own is = record { chains = is.chains; dropped = is.dropped; counts = is.counts; still = still-wider these (λ w. w.chain ≡ id) m n own is.still; region = is.region }
 
   pub gap-filled : (from to : Pos) (tomb : Option Tomb) → IsBefore from to → OfPinned m id pin (λ k j v. IsFilled id (gap_filled from to tomb) Nowhere m n) →
-      OfPinned m id pin (λ k j v. AreBoundsListed k.chain.kind v (member id j (Some from)) (member id j (Some to)) m.recency n.recency) → IsPortionFilled (OfGap from to tomb) id pin m n
+      OfPinned m id pin (λ k j v. AreBoundsListed k.chain.kind v (member_at id j (Some from)) (member_at id j (Some to)) m.recency n.recency) → IsPortionFilled (OfGap from to tomb) id pin m n
   gap-filled from to tomb ascend filled listed = record {
     snapshot = h;
     may = may;
     whole = ascend;
     filled = wider (gap_filled from to tomb) Nowhere (λ w no. absurd no) (at_pinned (λ k j v. IsFilled id (gap_filled from to tomb) Nowhere m n) filled);
-    listed = come-bounds id h.chain.chain.kind pinned_version.0 (member id h.number (Some from)) (member id h.number (Some to)) m.recency n.recency refl refl
-        (at_pinned (λ k j v. AreBoundsListed k.chain.kind v (member id j (Some from)) (member id j (Some to)) m.recency n.recency) listed);
-    stay = stay-bounds h.chain.chain.kind pinned_version.0 (member id h.number (Some from)) (member id h.number (Some to)) m.recency n.recency
-        (at_pinned (λ k j v. AreBoundsListed k.chain.kind v (member id j (Some from)) (member id j (Some to)) m.recency n.recency) listed);
+    listed = come-bounds id h.chain.chain.kind pinned_version.0 (member_at id h.number (Some from)) (member_at id h.number (Some to)) m.recency n.recency refl refl
+        (at_pinned (λ k j v. AreBoundsListed k.chain.kind v (member_at id j (Some from)) (member_at id j (Some to)) m.recency n.recency) listed);
+    stay = stay-bounds h.chain.chain.kind pinned_version.0 (member_at id h.number (Some from)) (member_at id h.number (Some to)) m.recency n.recency
+        (at_pinned (λ k j v. AreBoundsListed k.chain.kind v (member_at id j (Some from)) (member_at id j (Some to)) m.recency n.recency) listed);
   }
 
-  pub row-filled : (key : List Comp) (row : Row) (tomb : Option Tomb) → row ≢ empty_row → OfPinned m id pin (λ k j v. IsFilled id (row_filled (row_pos key) row tomb) (AtAlone (member id j (Some (row_pos key)))) m n) →
-      OfPinned m id pin (λ k j v. IsRenewed k.chain.kind (member id j (Some (row_pos key))) m.recency n.recency) → IsPortionFilled (OfRow key row tomb) id pin m n
+  pub row-filled : (key : List Comp) (row : Row) (tomb : Option Tomb) → row ≢ empty_row → OfPinned m id pin (λ k j v. IsFilled id (row_filled (row_pos key) row tomb) (AtAlone (member_at id j (Some (row_pos key)))) m n) →
+      OfPinned m id pin (λ k j v. IsRenewed k.chain.kind (member_at id j (Some (row_pos key))) m.recency n.recency) → IsPortionFilled (OfRow key row tomb) id pin m n
   row-filled key row tomb some filled listed = record {
     snapshot = h;
     may = may;
     whole = some;
-    filled = wider (row_filled (row_pos key) row tomb) (AtAlone (member id h.number (Some (row_pos key)))) (λ w at. ap (λ (x : Member). x.chain) at)
-        (at_pinned (λ k j v. IsFilled id (row_filled (row_pos key) row tomb) (AtAlone (member id j (Some (row_pos key)))) m n) filled);
-    listed = come-renewed id (member id h.number (Some (row_pos key))) refl h.chain.chain.kind m.recency n.recency
-        (at_pinned (λ k j v. IsRenewed k.chain.kind (member id j (Some (row_pos key))) m.recency n.recency) listed);
-    stay = stay-renewed (member id h.number (Some (row_pos key))) h.chain.chain.kind m.recency n.recency (at_pinned (λ k j v. IsRenewed k.chain.kind (member id j (Some (row_pos key))) m.recency n.recency) listed);
+    filled = wider (row_filled (row_pos key) row tomb) (AtAlone (member_at id h.number (Some (row_pos key)))) (λ w at. ap (λ (x : Member). x.chain) at)
+        (at_pinned (λ k j v. IsFilled id (row_filled (row_pos key) row tomb) (AtAlone (member_at id j (Some (row_pos key)))) m n) filled);
+    listed = come-renewed id (member_at id h.number (Some (row_pos key))) refl h.chain.chain.kind m.recency n.recency
+        (at_pinned (λ k j v. IsRenewed k.chain.kind (member_at id j (Some (row_pos key))) m.recency n.recency) listed);
+    stay = stay-renewed (member_at id h.number (Some (row_pos key))) h.chain.chain.kind m.recency n.recency (at_pinned (λ k j v. IsRenewed k.chain.kind (member_at id j (Some (row_pos key))) m.recency n.recency) listed);
   }
 
-  pub static-filled : (row : Row) → OfPinned m id pin (λ k j v. IsFilled id (fill_statics (given row)) (AtAlone (member id j None)) m n) →
-      OfPinned m id pin (λ k j v. IsGivenListed k.chain.kind (given row) (member id j None) m.recency n.recency) → IsPortionFilled (OfStatics row) id pin m n
+  pub static-filled : (row : Row) → OfPinned m id pin (λ k j v. IsFilled id (fill_statics (filled_statics row)) (AtAlone (member_at id j None)) m n) →
+      OfPinned m id pin (λ k j v. IsGivenListed k.chain.kind (filled_statics row) (member_at id j None) m.recency n.recency) → IsPortionFilled (OfStatics row) id pin m n
   static-filled row filled listed = record {
     snapshot = h;
     may = may;
     whole = tt;
-    filled = wider (fill_statics (given row)) (AtAlone (member id h.number None)) (λ w at. ap (λ (x : Member). x.chain) at)
-        (at_pinned (λ k j v. IsFilled id (fill_statics (given row)) (AtAlone (member id j None)) m n) filled);
-    listed = come-given id (member id h.number None) refl h.chain.chain.kind (given row) m.recency n.recency
-        (at_pinned (λ k j v. IsGivenListed k.chain.kind (given row) (member id j None) m.recency n.recency) listed);
-    stay = stay-given (member id h.number None) h.chain.chain.kind (given row) m.recency n.recency (at_pinned (λ k j v. IsGivenListed k.chain.kind (given row) (member id j None) m.recency n.recency) listed);
+    filled = wider (fill_statics (filled_statics row)) (AtAlone (member_at id h.number None)) (λ w at. ap (λ (x : Member). x.chain) at)
+        (at_pinned (λ k j v. IsFilled id (fill_statics (filled_statics row)) (AtAlone (member_at id j None)) m n) filled);
+    listed = come-given id (member_at id h.number None) refl h.chain.chain.kind (filled_statics row) m.recency n.recency
+        (at_pinned (λ k j v. IsGivenListed k.chain.kind (filled_statics row) (member_at id j None) m.recency n.recency) listed);
+    stay = stay-given (member_at id h.number None) h.chain.chain.kind (filled_statics row) m.recency n.recency (at_pinned (λ k j v. IsGivenListed k.chain.kind (filled_statics row) (member_at id j None) m.recency n.recency) listed);
   }

@@ -11,7 +11,7 @@ use Rattle.rc_mutation.specs.declared.mutations.Mutation.{Mutation}
 use Rattle.rc_mutation.specs.Source.{source_at, source_at_head, source_at_static}
 use Rattle.rc_core.specs.declared.entries.ChainKind.{ChainKind}
 use Rattle.rc_core.specs.declared.entries.ChainKind.TheVariants.{Cache}
-use Rattle.rc_core.specs.Chain.{IsKnown, content, flagged, states_at}
+use Rattle.rc_core.specs.Chain.{IsKnown, content, has_flag, states_at}
 use Rattle.rc_core.specs.Chains.{IsChainContinuous, IsPinned, Shown, at_place, phase_at, upto}
 use Rattle.rc_core.specs.Continuity.{IsContinuous, static_states, version_tombs}
 use Rattle.rc_core.specs.Steps.{IsChain, MayPopulate, pin_at}
@@ -74,7 +74,7 @@ module _ (law : (below : ℕ → List Mutation) (p : Place) (c : Shown) (j : ℕ
   pub content-there : (x : Pos) → IsKnown Cache (upto s.snapshot.chain.chain.versions s.snapshot.number) x → content (states_at (On x) (upto s.snapshot.chain.chain.versions s.snapshot.number)) ≡ source_at writes x
   content-there x k = source.clustered x tt k.at ∙ s.source.clustered x
 
-  pub statics-there : IsTrue (flagged Cache (static_states (upto s.snapshot.chain.chain.versions s.snapshot.number))) → (content (static_states (upto s.snapshot.chain.chain.versions s.snapshot.number))).0 ≡ source_at_static writes
+  pub statics-there : IsTrue (has_flag Cache (static_states (upto s.snapshot.chain.chain.versions s.snapshot.number))) → (content (static_states (upto s.snapshot.chain.chain.versions s.snapshot.number))).0 ≡ source_at_static writes
   statics-there f = ap (λ (a : Row × Option Tomb). a.0) (source.statics tt f) ∙ s.source.statics
 
 module _ (law : (below : ℕ → List Mutation) (p : Place) (c : Shown) (j : ℕ) → IsChain (at_place p c) → IsChainContinuous below (at_place p c) → IsPinned c.pins j → IsContinuous None (below (phase_at c.versions j)) (upto c.versions j)) where
@@ -83,7 +83,7 @@ module _ (law : (below : ℕ → List Mutation) (p : Place) (c : Shown) (j : ℕ
 
   pub statics-said : (S : ℕ) (m : Memory) (f : CacheFiller) (writes : List Mutation) → StandsForWrites S m f.chain f.pin writes → (row : Row) → FillerKnowsStatics m f row → source_at_static writes ≡ row
   statics-said S m f writes s row k =
-      sym (statics-there law S m f.chain f.pin writes s (of-seen m f.chain f.pin s.snapshot (λ kind vs. IsTrue (flagged kind (static_states vs))) k.0))
+      sym (statics-there law S m f.chain f.pin writes s (of-seen m f.chain f.pin s.snapshot (λ kind vs. IsTrue (has_flag kind (static_states vs))) k.0))
       ∙ of-seen m f.chain f.pin s.snapshot (λ kind vs. (content (static_states vs)).0 ≡ row) k.1
 
   pub head-said : (S : ℕ) (m : Memory) (f : CacheFiller) (writes : List Mutation) → StandsForWrites S m f.chain f.pin writes → greatest tomb_cmp (version_tombs (versions_filled m f)) ≡ source_at_head writes

@@ -5,7 +5,7 @@
 use Rattle.std.specs.Prelude.{◌≡◌, ◌≤◌, ◌+◌, ◌*◌, ◌/◌, ℕ, List, IsTrue}
 use Rattle.rc_cell.specs.declared.rows.Row.{Row}
 use Rattle.rc_position.specs.declared.positions.Pos.{Pos}
-use Rattle.rc_core.specs.Chain.{content, flagged}
+use Rattle.rc_core.specs.Chain.{content, has_flag}
 use Rattle.rc_core.specs.Continuity.{static_states}
 use Rattle.rc_core.specs.declared.entries.ChainKind.{ChainKind}
 use Rattle.rc_core.specs.Version.{Version}
@@ -29,7 +29,7 @@ FillerKnows m f = IsKnownAs (kind_filled m f) (versions_filled m f)
 
 -- the snapshot knows the static row, which is this one
 abbrev pub FillerKnowsStatics : Memory → CacheFiller → Row → Type 0
-FillerKnowsStatics m f row = IsTrue (flagged (kind_filled m f) (static_states (versions_filled m f))) × ((content (static_states (versions_filled m f))).0 ≡ row)
+FillerKnowsStatics m f row = IsTrue (has_flag (kind_filled m f) (static_states (versions_filled m f))) × ((content (static_states (versions_filled m f))).0 ≡ row)
 
 -- how often something was lost: an object was evicted, or a fill was skipped
 abbrev pub losses : Memory → ℕ

@@ -23,7 +23,7 @@ use Rattle.rc_core.specs.Version.{Version}
 use Rattle.rc_memory.specs.Memory.{KeptChain, Member, Memory, counts_raised}
 use Rattle.rc_evict.specs.Crowding.{IsNearlyFull}
 use Rattle.rc_evict.specs.Evictions.{IsRoomMade}
-use Rattle.rc_populate.specs.Filling.{IsFilled, MayFill, given}
+use Rattle.rc_populate.specs.Filling.{IsFilled, MayFill, filled_statics}
 use Rattle.rc_stream.specs.Snapshot.{SayThere, Throughout}
 use Rattle.rc_filler.specs.declared.fillers.CacheFiller.{CacheFiller}
 use Rattle.rc_filler.specs.Stands.{HasCacheSnapshot}
@@ -38,7 +38,7 @@ pub data Portion : Type 0 where
 abbrev pub filled_with : Portion → Version → Version
 filled_with (OfGap from to tomb) = gap_filled from to tomb
 filled_with (OfRow key row tomb) = row_filled (row_pos key) row tomb
-filled_with (OfStatics row) = fill_statics (given row)
+filled_with (OfStatics row) = fill_statics (filled_statics row)
 
 -- a gap has its ends in order, and in a row something is written
 abbrev pub IsPortion : Portion → Type 0

@@ -20,7 +20,7 @@ ghost use Rattle.rc_memtable.specs.Writes.{AreSmall};
 ghost use Rattle.rc_memory.specs.Recency.{IsRecency};
 ghost use Rattle.rc_chain.specs.declared.chains.Snap.{Snap as Snapshot};
 ghost use Rattle.rc_evict.specs.Evictions.{IsPlaceUnlisted};
-ghost use Rattle.rc_populate.specs.Filling.{IsEntryOpened, MayFill, given};
+ghost use Rattle.rc_populate.specs.Filling.{IsEntryOpened, MayFill, filled_statics};
 ghost use Rattle.rc_cursor.specs.Snapshots.{AreReadable, kind_seen, versions_seen};
 ghost use Rattle.rc_stream.specs.declared.fillers.Fill.{Fill};
 ghost use Rattle.rc_stream.specs.Snapshot.{Answers, NoneLost, SayThere, There, Unlost, most_counted};
@@ -165,7 +165,7 @@ pub fn a_taken_snapshot_stands_for_what_lies_below()
         chain_at m id ≡ Some k → k.chain.kind ≡ Cache → k.chain.attached ≡ true → IsSoundChain k.chain → IsChain (at_place p k.chain) → IsChainContinuous below (at_place p k.chain) → IsPlaceUnlisted p id k.chain m.recency → EachOf (HoldsRowsOf schema) k.chain.versions →
         SameSource (below (phase_at k.chain.versions (snapshot_number k.chain))) writes → IsSnapshotTaken m n id pin phase → StandsForWrites S n id pin writes }
     ensures opened { (S : ℕ) (schema : SchemaValue) (writes : List Mutation) (old mid new : Memory) (id pin phase of_pin : ℕ) → IsTrue (is_schema schema) → AreSmall S schema → All (ChangeFits schema) writes →
-        IsEntryOpened id (source_at_head writes) (given (source_at_static writes)) phase old mid → IsSnapshotTaken mid new id pin of_pin → StandsForWrites S new id pin writes }
+        IsEntryOpened id (source_at_head writes) (filled_statics (source_at_static writes)) phase old mid → IsSnapshotTaken mid new id pin of_pin → StandsForWrites S new id pin writes }
 {
     one_more_snapshot_keeps_what_is_said();
     an_opened_chain_says_what_is_handed_in();

@@ -4,7 +4,7 @@ ghost use Rattle.rc_memory.specs.Memory.{Memory};
 ghost use Rattle.rc_rowcode.specs.Spelling.{RowFits};
 ghost use Rattle.rc_version.specs.Versions.{statics_bytes};
 ghost use Rattle.rc_chain.specs.Lives.{IsSameButSlots};
-ghost use Rattle.rc_populate.specs.Filling.{IsEntryOpened, given};
+ghost use Rattle.rc_populate.specs.Filling.{IsEntryOpened, filled_statics};
 ghost use Rattle.rc_filler.specs.Fills.{IsOutOfRoom, IsSkipCounted};
 ghost use Rattle.rc_evict.specs.Evictions.{IsRoomMade};
 
@@ -22,8 +22,8 @@ pub fn open_with_room<const S: usize>(
 ) -> Result<Option<u64>, AllocError>
     requires roomy { 8952 ≤ 7 * S / 8 }
     requires row { RowFits head.now.statics }
-    requires small { statics_bytes (given head.now.statics) ≤ S / 8 }
-    ensures opened { IfOk result (λ o. IfSome o (λ id. (mid : Memory) × IsRoomMade S chains.old mid × IsEntryOpened id head.now.pt (given head.now.statics) phase mid chains.new)) }
+    requires small { statics_bytes (filled_statics head.now.statics) ≤ S / 8 }
+    ensures opened { IfOk result (λ o. IfSome o (λ id. (mid : Memory) × IsRoomMade S chains.old mid × IsEntryOpened id head.now.pt (filled_statics head.now.statics) phase mid chains.new)) }
     ensures none { IfOk result (λ o. IfNone o ((mid : Memory) × IsRoomMade S chains.old mid × IsOutOfRoom S mid × IsSkipCounted mid chains.new)) }
     ensures err { OnErr result ((mid : Memory) × IsRoomMade S chains.old mid × IsSameButSlots mid chains.new) }
 {

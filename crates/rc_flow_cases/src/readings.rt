@@ -1,6 +1,6 @@
 //! A partition read through a stream.
 
-ghost use Rattle.rc_tables.specs.Streams.{IsReady};
+ghost use Rattle.rc_tables.specs.Streams.{MayBeCalledOver};
 
 use crate::files::change_file;
 use crate::telling::{tell_counts, tell_refusal};
@@ -97,7 +97,7 @@ fn counts<W: Store>(
     tables: TableFrags,
     reading: &Reading,
 ) -> Result<(u64, u64), StreamErr>
-    requires { IsReady (W.files store.old) tables }
+    requires { MayBeCalledOver (W.files store.old) tables }
 {
     let before = store.asks();
     match read_through(alloc, store, one, two, tables, &reading.from, &reading.upto) {

@@ -4,7 +4,7 @@ ghost use Rattle.std.specs.Prelude.{◌≡◌, ◌≤◌, ◌+◌, ℕ, Bool, If
 ghost use Rattle.rc_stream.specs.Did.{IsQuiet, Spends};
 ghost use Rattle.rc_position.specs.declared.positions.Pos.{Pos};
 ghost use Rattle.rc_stream.specs.Places.{Reaches};
-ghost use Rattle.rc_tables.specs.Streams.{IsReady, asks_left};
+ghost use Rattle.rc_tables.specs.Streams.{MayBeCalledOver, asks_left};
 
 use rc_outside::Store;
 use rc_position::Pos;
@@ -49,7 +49,7 @@ pub fn read_through<W: Store>(
     from: &Pos,
     upto: &Pos,
 ) -> Result<(u64, u64), StreamErr>
-    requires { IsReady (W.files store.old) tables }
+    requires { MayBeCalledOver (W.files store.old) tables }
     ensures asks { W.asks store.new ≤ W.asks store.old + asks_left tables }
     ensures quiet { IfOk result (λ n. n.1 ≡ n.0) }
 {

@@ -6,7 +6,7 @@
 --     AreFresh        the figures of a machine that was opened just now
 --     AreCounted      what a command does to the figures
 use Rattle.std.specs.Prelude.{◌≡◌, ◌-◌, ◌≤◌, ℕ, Bool, true, false, cond, nat_eq, Option, Some, None, IfSome}
-use Rattle.rc_outside.specs.Faults.{raised}
+use Rattle.rc_outside.specs.Faults.{raised_count}
 use Rattle.rc_lines.specs.declared.commands.Command.{Command}
 use Rattle.rc_lines.specs.declared.commands.Command.TheVariants.{OpenRead, Read, Stats}
 use Rattle.rc_lines.specs.declared.commands.Figures.{Figures}
@@ -23,7 +23,7 @@ is_answered command reply = false
 -- the counts after a reply to a command for which the store was asked so often before and after it: a hit where an answer asked the store for nothing, else a miss
 abbrev pub counted_answer : Command → Reply → ℕ → ℕ → Answered → Answered
 counted_answer command reply before after a =
-    cond (is_answered command reply) (cond (nat_eq before after) (record a { hits = raised a.hits }) (record a { misses = raised a.misses })) a
+    cond (is_answered command reply) (cond (nat_eq before after) (record a { hits = raised_count a.hits }) (record a { misses = raised_count a.misses })) a
 
 -- the counts of answers among figures
 abbrev pub answered_of : Figures → Answered

@@ -9,7 +9,7 @@ ghost use Rattle.rc_mutation.specs.Fragments.{IsParts};
 ghost use Rattle.rc_mutation.specs.Source.{IsMutation};
 ghost use Rattle.rc_tfile.specs.declared.info.TableInfo.{TableInfo};
 ghost use Rattle.rc_tfile.specs.TableText.{PartsFit};
-ghost use Rattle.rc_machine.specs.State.{State, unstored};
+ghost use Rattle.rc_machine.specs.State.{State, unstored_writes};
 ghost use Rattle.rc_machine.specs.Standing.{IsOver};
 ghost use Rattle.rc_machine.specs.Steps.{with_table};
 ghost use Rattle.rc_folder.specs.Tabled.{Tabled, IsTableAdded, IsNextNumber};
@@ -18,7 +18,7 @@ ghost use Rattle.rc_folder.specs.Tabled.{Tabled, IsTableAdded, IsNextNumber};
 /// the schema can hold, as `Folder::add` needs them.
 pub fn sealed_parts_fit()
     ensures { (told : Option Files) (schema : SchemaValue) (infos : List TableInfo) (m : State) (sealed later : List Write) (parts : List Partition) →
-        IsOver told schema infos m → sealed ++ later ≡ unstored m → IsParts parts sealed → PartsFit schema parts }
+        IsOver told schema infos m → sealed ++ later ≡ unstored_writes m → IsParts parts sealed → PartsFit schema parts }
 {}
 
 /// Where the machine stands over a folder, the number of the next table is no file's, as `Folder::add` needs it.

@@ -7,6 +7,7 @@ mod folder;
 mod laws;
 mod machine;
 mod opening;
+mod readers;
 
 pub use built::is_built;
 pub use counts::Answered;
@@ -14,3 +15,4 @@ pub use folder::Folder;
 pub use laws::{machine_stands_over_one_more, next_number_is_no_files, sealed_parts_fit};
 pub use machine::Machine;
 pub use opening::OpenErr;
+pub use readers::{MOST_READERS, most_readers_are_named};

@@ -17,7 +17,7 @@ use Rattle.rc_ranges.specs.declared.pieces.Piece.{Piece}
 use Rattle.rc_rowcode.specs.Spelling.{IsTomb}
 use Rattle.rc_schema.specs.SchemaValue.{SchemaValue, is_schema}
 use Rattle.rc_schema.specs.SchemaText.{schema_text}
-use Rattle.rc_spelling.specs.Printed.{AreBytes, IsComponent, bytes_of_component, printed, key_text}
+use Rattle.rc_spelling.specs.Printed.{AreBytes, IsComponent, bytes_of_component, printed_bytes, key_text}
 use Rattle.rc_lines.specs.declared.commands.Command.{Command}
 use Rattle.rc_lines.specs.declared.commands.Command.TheVariants.{SetSchema, Put, OpenRead}
 use Rattle.rc_lines.specs.declared.shapes.Bound.{Bound}
@@ -27,7 +27,7 @@ use Rattle.rc_lines.specs.declared.shapes.Shape.TheVariants.{Open, Written}
 use Rattle.rc_lines.specs.declared.shapes.Stamp.{Stamp}
 use Rattle.rc_lines.specs.declared.shapes.Stamp.TheVariants.{Alive}
 use Rattle.rc_lines.specs.Plain.{IsCount, HasCounts, plain_line}
-use Rattle.rc_lines.specs.Sayable.{stamped, shape_line, IsStampInRange, IsStamped}
+use Rattle.rc_lines.specs.Sayable.{cell_stamp, shape_line, IsStampInRange, IsStamped}
 use Rattle.rc_lines.specs.UnderSchema.{is_partition_key}
 
 -- ---- the line
@@ -56,7 +56,7 @@ column_name names column = slice_index_or names column []
 
 -- ` NAME=VALUE` of a column's value
 abbrev pub value_text : List (List ℕ) → ℕ × List ℕ → List ℕ
-value_text names shown = 32 ∷ (column_name names shown.0 ++ 61 ∷ printed shown.1)
+value_text names shown = 32 ∷ (column_name names shown.0 ++ 61 ∷ printed_bytes shown.1)
 
 -- each cell with the name of its column
 abbrev pub cells_said : List (List ℕ) → List (ℕ × Cell) → List (List ℕ × Cell)
@@ -86,16 +86,16 @@ tomb_text tomb = codes " ts=" ++ (signed_decimal tomb.ts ++ (codes " dt=" ++ dec
 
 -- `delpart KEY ts=TS dt=DT`
 abbrev pub delpart_text : List ℕ → Tomb → List ℕ
-delpart_text key tomb = codes "delpart " ++ (printed key ++ tomb_text tomb)
+delpart_text key tomb = codes "delpart " ++ (printed_bytes key ++ tomb_text tomb)
 
 -- `delete KEY CK ts=TS dt=DT`, the key as replies print it
 abbrev pub delete_text : List ℕ → List Comp → Tomb → List ℕ
-delete_text key ck tomb = codes "delete " ++ (printed key ++ 32 ∷ (key_text ck ++ tomb_text tomb))
+delete_text key ck tomb = codes "delete " ++ (printed_bytes key ++ 32 ∷ (key_text ck ++ tomb_text tomb))
 
 -- `insert KEY CK ts=TS NAME=VALUE ..`, the key and the values as replies print them
 abbrev pub insert_text : List (List ℕ) → List ℕ → List Comp → ℤ → List (ℕ × List ℕ) → List ℕ
 insert_text names key ck ts values =
-    codes "insert " ++ (printed key ++ 32 ∷ (key_text ck ++ (codes " ts=" ++ (signed_decimal ts ++ flat_map (value_text names) values))))
+    codes "insert " ++ (printed_bytes key ++ 32 ∷ (key_text ck ++ (codes " ts=" ++ (signed_decimal ts ++ flat_map (value_text names) values))))
 
 -- live cells of one timestamp, from columns with values
 abbrev pub live_cells : ℤ → List (ℕ × List ℕ) → List (ℕ × Cell)
@@ -132,7 +132,7 @@ abbrev pub HasOneStamp : Option ℤ → Option Tomb → List (ℕ × Cell) → T
 HasOneStamp (Some ts) tomb cells = AreStamped (Alive ts) cells
 HasOneStamp None (Some tomb) cells = IsTomb tomb
 HasOneStamp None None [] = Unit {0}
-HasOneStamp None None (e ∷ cells) = AreStamped (stamped e.1) (e ∷ cells)
+HasOneStamp None None (e ∷ cells) = AreStamped (cell_stamp e.1) (e ∷ cells)
 
 -- a row that is written at once
 abbrev pub IsSayableRow : Row → Type 0

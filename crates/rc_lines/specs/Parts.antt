@@ -50,13 +50,13 @@ unfoldable pub to_limit : List ℕ → Option (List (List ℕ) × Bool)
 to_limit word = option_and_then (λ to. limit_of to (without_back (codes "]") to) (without_back (codes ")") to)) (without_front (codes "to=") word)
 
 -- a name in the form of a column's, with a cell
-unfoldable pub named : List ℕ → Option Cell → Option (List ℕ × Cell)
-named name cell = if is_name name then option_map (λ c. (name, c)) cell else None
+unfoldable pub named_cell : List ℕ → Option Cell → Option (List ℕ × Cell)
+named_cell name cell = if is_name name then option_map (λ c. (name, c)) cell else None
 
 -- `NAME=VALUE`, a live cell: the first `=` ends the name
 unfoldable pub cell_set : ℤ → List ℕ → Option (List ℕ × Cell)
-cell_set ts word = option_and_then (λ at. named (take at word) (option_map (λ value. Live ts value) (bytes_spelled (drop (at + 1) word)))) (position (λ byte. byte == 61) word)
+cell_set ts word = option_and_then (λ at. named_cell (take at word) (option_map (λ value. Live ts value) (bytes_spelled (drop (at + 1) word)))) (position (λ byte. byte == 61) word)
 
 -- `NAME`, a dead cell
 abbrev pub cell_unset : Tomb → List ℕ → Option (List ℕ × Cell)
-cell_unset tomb word = named word (Some (Dead tomb.ts tomb.dt))
+cell_unset tomb word = named_cell word (Some (Dead tomb.ts tomb.dt))

@@ -11,7 +11,7 @@ use Rattle.rc_mutation.specs.Fragments.{has_any}
 use Rattle.rc_position.specs.declared.comps.Comp.TheVariants.{Text}
 use Rattle.rc_rowcode.specs.Spelling.{IsTomb}
 use Rattle.rc_schema.specs.SchemaValue.{is_name}
-use Rattle.rc_spelling.specs.Printed.{AreBytes, printed, key_text}
+use Rattle.rc_spelling.specs.Printed.{AreBytes, printed_bytes, key_text}
 use Rattle.rc_lines.specs.declared.shapes.Bound.{Bound}
 use Rattle.rc_lines.specs.declared.shapes.Change.{Change}
 use Rattle.rc_lines.specs.declared.shapes.Change.TheVariants.{OfRow, OfStatic, OfRange, OfPartition}
@@ -48,13 +48,13 @@ stamp_words (Alive ts) = (codes "ts=" ++ signed_decimal ts) ∷ []
 stamp_words (Gone tomb) = (codes "ts=" ++ signed_decimal tomb.ts) ∷ (codes "dt=" ++ decimal tomb.dt) ∷ []
 
 -- the stamp of a cell
-abbrev pub stamped : Cell → Stamp
-stamped (Live ts value) = Alive ts
-stamped (Dead ts dt) = Gone (record { ts = ts; dt = dt })
+abbrev pub cell_stamp : Cell → Stamp
+cell_stamp (Live ts value) = Alive ts
+cell_stamp (Dead ts dt) = Gone (record { ts = ts; dt = dt })
 
 -- what stands behind the name of a cell: `=VALUE`, or nothing where the cell is dead
 abbrev pub behind_name : Cell → List ℕ
-behind_name (Live ts value) = 61 ∷ printed value
+behind_name (Live ts value) = 61 ∷ printed_bytes value
 behind_name (Dead ts dt) = []
 
 -- a name with its cell
@@ -75,8 +75,8 @@ abbrev pub change_words : List ℕ → Change → Option (List (List ℕ))
 change_words key (OfRow ck (Some ts) None cells) = Some (codes "insert" ∷ key ∷ prefix_word ck ∷ cells_words (Alive ts) cells)
 change_words key (OfRow ck None (Some tomb) []) = Some (codes "delete" ∷ key ∷ prefix_word ck ∷ stamp_words (Gone tomb))
 change_words key (OfRow ck None None (cell ∷ cells)) =
-    Some (cells_verb false (stamped cell.1) ∷ key ∷ prefix_word ck ∷ cells_words (stamped cell.1) (cell ∷ cells))
-change_words key (OfStatic (cell ∷ cells)) = Some (cells_verb true (stamped cell.1) ∷ key ∷ cells_words (stamped cell.1) (cell ∷ cells))
+    Some (cells_verb false (cell_stamp cell.1) ∷ key ∷ prefix_word ck ∷ cells_words (cell_stamp cell.1) (cell ∷ cells))
+change_words key (OfStatic (cell ∷ cells)) = Some (cells_verb true (cell_stamp cell.1) ∷ key ∷ cells_words (cell_stamp cell.1) (cell ∷ cells))
 change_words key (OfRange from to tomb) = Some (codes "delrange" ∷ key ∷ (range_words from to ++ stamp_words (Gone tomb)))
 change_words key (OfPartition tomb) = Some (codes "delpart" ∷ key ∷ stamp_words (Gone tomb))
 change_words key other = None
@@ -88,8 +88,8 @@ slice_words from to = if has_any from.pieces || has_any to.pieces then range_wor
 -- the words of a shape; a command that is the same under each schema has its `plain_line`
 abbrev pub shape_words : Shape → Option (List (List ℕ))
 shape_words (Plain command) = None
-shape_words (Open id key from to) = Some (codes "open" ∷ decimal id ∷ printed key ∷ slice_words from to)
-shape_words (Written key change) = change_words (printed key) change
+shape_words (Open id key from to) = Some (codes "open" ∷ decimal id ∷ printed_bytes key ∷ slice_words from to)
+shape_words (Written key change) = change_words (printed_bytes key) change
 
 -- the line of a shape: its words with one space between them
 abbrev pub shape_line : Shape → Option (List ℕ)
@@ -137,9 +137,9 @@ abbrev pub IsSayableChange : Change → Type 0
 IsSayableChange (OfRow ck (Some ts) tomb cells) = IsPrefix ck × AreSayableCells (Alive ts) cells
 IsSayableChange (OfRow ck None (Some tomb) cells) = IsPrefix ck × IsTomb tomb
 IsSayableChange (OfRow ck None None []) = Unit {0}
-IsSayableChange (OfRow ck None None (cell ∷ cells)) = IsPrefix ck × AreSayableCells (stamped cell.1) (cell ∷ cells)
+IsSayableChange (OfRow ck None None (cell ∷ cells)) = IsPrefix ck × AreSayableCells (cell_stamp cell.1) (cell ∷ cells)
 IsSayableChange (OfStatic []) = Unit {0}
-IsSayableChange (OfStatic (cell ∷ cells)) = AreSayableCells (stamped cell.1) (cell ∷ cells)
+IsSayableChange (OfStatic (cell ∷ cells)) = AreSayableCells (cell_stamp cell.1) (cell ∷ cells)
 IsSayableChange (OfRange from to tomb) = IsBound from × IsBound to × IsTomb tomb
 IsSayableChange (OfPartition tomb) = IsTomb tomb
 

@@ -1,7 +1,7 @@
 -- The texts of replies.
 use Rattle.std.specs.Prelude.{ℕ, List, [], ◌∷◌, ◌++◌, flat_map, codes, decimal, slice_index_or, if◌then◌else◌}
 use Rattle.rc_schema.specs.SchemaValue.{SchemaValue}
-use Rattle.rc_spelling.specs.Printed.{printed, key_text}
+use Rattle.rc_spelling.specs.Printed.{printed_bytes, key_text}
 use Rattle.rc_query.specs.declared.lines.OutLine.{OutLine}
 use Rattle.rc_query.specs.declared.lines.OutLine.TheVariants.{Static, Row}
 use Rattle.rc_lines.specs.declared.commands.Figures.{Figures}
@@ -12,7 +12,7 @@ use Rattle.rc_lines.specs.declared.commands.Reply.TheVariants.{Nothing, Fine, Gi
 
 -- ` NAME=VALUE` for each value, with the number of its column
 unfoldable pub values_text : List (List ℕ) → List (ℕ × List ℕ) → List ℕ
-values_text names shown = flat_map (λ e. 32 ∷ (slice_index_or names e.0 [] ++ 61 ∷ printed e.1)) shown
+values_text names shown = flat_map (λ e. 32 ∷ (slice_index_or names e.0 [] ++ 61 ∷ printed_bytes e.1)) shown
 
 -- a line that a reader is given
 abbrev pub line_text : SchemaValue → OutLine → List ℕ

@@ -9,12 +9,12 @@ ghost use Rattle.std.specs.Ordering.{nat_cmp};
 ghost use Rattle.rc_schema.specs.SchemaValue.{are_distinct_by};
 ghost use Rattle.rc_spelling.specs.Words.{is_word};
 ghost use Rattle.rc_lines.specs.calls.ShapeParts.{are_distinct, live_of, set_of, split_set, cell_said, each_cell_of, named_cells, some_cells_of};
-ghost use Rattle.rc_lines.specs.Parts.{named};
+ghost use Rattle.rc_lines.specs.Parts.{named_cell};
 
-use crate::parts::is_name;
 use crate::shapes::{Named, Stamp};
 use rc_cell::{Cell, Value};
 use rc_position::Text;
+use rc_schema::is_name;
 use rc_spelling::read_bytes;
 use std::alloc::{AllocError, Global};
 use std::collections::BTreeSet;
@@ -32,9 +32,9 @@ fn live(alloc: Global, ts: i64, value: &[u8]) -> Result<Option<Cell>, AllocError
 }
 
 /// A name with its cell.
-#[tactic(auto, unfolding(crate::specs::Parts::named))]
+#[tactic(auto, unfolding(crate::specs::Parts::named_cell))]
 fn named(alloc: Global, name: &[u8], cell: Option<Cell>) -> Result<Option<(Text, Cell)>, AllocError>
-    ensures { IfOk result (λ found. found ≡ named name.now cell) }
+    ensures { IfOk result (λ found. found ≡ named_cell name.now cell) }
 {
     if !is_name(name) {
         return Ok(None);

@@ -59,7 +59,7 @@ fn range_deleted(
 }
 
 /// The words behind `insert KEY`: CK, a timestamp, and any number of `NAME=VALUE`. They write a marker and live cells.
-#[tactic(auto, unfolding(crate::specs::calls::Shapes::inserted))]
+#[tactic(auto, unfolding(crate::specs::calls::Shapes::insert_change))]
 fn insert(alloc: Global, words: &[&[u8]]) -> Result<Option<Change>, AllocError>
     ensures { IfOk result (λ found. found ≡ insert_of (map (λ word. word.now) words.now)) }
 {
@@ -95,7 +95,7 @@ fn update(alloc: Global, words: &[&[u8]]) -> Result<Option<Change>, AllocError>
 }
 
 /// The words behind `unset KEY`: CK, a tombstone's two words, and at least one NAME. They write dead cells.
-#[tactic(auto, unfolding(crate::specs::calls::Shapes::removed))]
+#[tactic(auto, unfolding(crate::specs::calls::Shapes::unset_change))]
 fn unset(alloc: Global, words: &[&[u8]]) -> Result<Option<Change>, AllocError>
     ensures { IfOk result (λ found. found ≡ unset_of (map (λ word. word.now) words.now)) }
 {
@@ -114,7 +114,7 @@ fn unset(alloc: Global, words: &[&[u8]]) -> Result<Option<Change>, AllocError>
 }
 
 /// The words behind `delete KEY`: CK and a tombstone's two words. They write a row tombstone.
-#[tactic(auto, unfolding(crate::specs::calls::Shapes::deleted))]
+#[tactic(auto, unfolding(crate::specs::calls::Shapes::delete_change))]
 fn delete(alloc: Global, words: &[&[u8]]) -> Result<Option<Change>, AllocError>
     ensures { IfOk result (λ found. found ≡ delete_of (map (λ word. word.now) words.now)) }
 {

@@ -1,7 +1,7 @@
 //! What a line says before a schema is known, by its words.
 
 ghost use Rattle.std.specs.Prelude.{◌≡◌, IfOk, map};
-ghost use Rattle.rc_lines.specs.calls.Shapes.{bare_of, begin_of, told_of, numbered_of, read_of, step_of, counted_of, plain_of, open_shape, open_of, write_of, shape_of};
+ghost use Rattle.rc_lines.specs.calls.Shapes.{bare_of, begin_of, command_of_number, command_of_two_words, read_of, step_of, command_of_three_words, plain_of, open_shape, open_of, write_of, shape_of};
 
 use crate::bounds::{begins_at, ends_at, no_bound};
 use crate::changes::change;
@@ -26,9 +26,9 @@ fn bare(verb: &[u8]) -> Option<Command>
 }
 
 /// The command of a word and a number.
-#[tactic(auto, unfolding(crate::specs::calls::Shapes::told_of))]
+#[tactic(auto, unfolding(crate::specs::calls::Shapes::command_of_number))]
 fn told(verb: &[u8], count: u32) -> Option<Command>
-    ensures { result ≡ told_of verb.now count }
+    ensures { result ≡ command_of_number verb.now count }
 {
     if is_word(verb, b"close") {
         return Some(Command::Close { id: count });
@@ -57,9 +57,9 @@ fn begin(word: &[u8]) -> Option<Command>
 }
 
 /// The command of two words.
-#[tactic(auto, unfolding(crate::specs::calls::Shapes::numbered_of))]
+#[tactic(auto, unfolding(crate::specs::calls::Shapes::command_of_two_words))]
 fn numbered(verb: &[u8], word: &[u8]) -> Option<Command>
-    ensures { result ≡ numbered_of verb.now word.now }
+    ensures { result ≡ command_of_two_words verb.now word.now }
 {
     if is_word(verb, b"flush") {
         return begin(word);
@@ -90,9 +90,9 @@ fn step(word: &[u8], units: &[u8]) -> Option<Command>
 }
 
 /// The command of three words.
-#[tactic(auto, unfolding(crate::specs::calls::Shapes::counted_of))]
+#[tactic(auto, unfolding(crate::specs::calls::Shapes::command_of_three_words))]
 fn counted(verb: &[u8], one: &[u8], other: &[u8]) -> Option<Command>
-    ensures { result ≡ counted_of verb.now one.now other.now }
+    ensures { result ≡ command_of_three_words verb.now one.now other.now }
 {
     if is_word(verb, b"read") {
         return read(one, other);

@@ -1,9 +1,7 @@
 //! The parts of a line's words.
 
 ghost use Rattle.std.specs.Prelude.{◌≡◌, IfOk};
-ghost use Rattle.std.specs.List.{list_all};
 ghost use Rattle.std.specs.Option.{option_copied};
-ghost use Rattle.rc_schema.specs.SchemaValue.{is_name, is_name_byte};
 ghost use Rattle.rc_lines.specs.Parts.{without_front, without_back, stamp_of, time_of, key_of};
 ghost use Rattle.rc_lines.specs.calls.ShapeParts.{tomb_of};
 ghost use Rattle.rc_spelling.specs.Words.{is_word};
@@ -34,32 +32,6 @@ pub(crate) fn before<'a>(text: &[u8], word: &'a [u8]) -> Option<&'a [u8]>
     ensures { option_copied result ≡ without_back text.now word.now }
 {
     word.strip_suffix(text)
-}
-
-/// Whether a byte may stand behind the first of a name.
-fn is_name_byte(byte: u8) -> bool
-    ensures { result ≡ is_name_byte byte }
-{
-    byte.is_ascii_lowercase() || byte.is_ascii_digit() || byte == b'_'
-}
-
-/// Whether each byte may stand behind the first of a name.
-fn are_name_bytes(bytes: &[u8]) -> bool
-    ensures { result ≡ list_all is_name_byte bytes.now }
-{
-    bytes.iter().all(|byte| is_name_byte(*byte))
-}
-
-/// Whether a word has the form of a column's name.
-pub(crate) fn is_name(word: &[u8]) -> bool
-    ensures { result ≡ is_name word.now }
-{
-    match word {
-        [] => false,
-        [first, rest @ ..] => {
-            first.is_ascii_lowercase() && rest.len() <= 31 && are_name_bytes(rest)
-        }
-    }
 }
 
 /// The timestamp of `ts=TS`.

@@ -1,7 +1,7 @@
 //! The text of a reply.
 
 ghost use Rattle.std.specs.Prelude.{◌≡◌, ◌++◌, ◌∷◌, decimal, flat_map, OnOk, OnErr};
-ghost use Rattle.rc_spelling.specs.Printed.{printed};
+ghost use Rattle.rc_spelling.specs.Printed.{printed_bytes};
 ghost use Rattle.rc_lines.specs.Lines.{column_name};
 ghost use Rattle.rc_lines.specs.Texts.{values_text, line_text, refusal_text, figures_text, reply_text};
 ghost use Rattle.rc_lines.specs.calls.TextParts.{given_text, fixed_text, named_figure};
@@ -28,7 +28,7 @@ fn column_name(names: &[Text], column: u8) -> &[u8]
 
 /// Appends ` NAME=VALUE`.
 fn print_value(name: &[u8], value: &Value, text: &mut Vec<u8>) -> Result<(), AllocError>
-    ensures { OnOk result (text.new.items ≡ text.old.items ++ 32 ∷ (name.now ++ 61 ∷ printed value.now)) }
+    ensures { OnOk result (text.new.items ≡ text.old.items ++ 32 ∷ (name.now ++ 61 ∷ printed_bytes value.now)) }
 {
     text.push(b' ')?;
     text.extend_from_slice(name)?;

@@ -5,19 +5,19 @@ use Rattle.std.proofs.lemmas.List.Elements.{Contains-append_right}
 use Rattle.rc_cell.specs.declared.rows.Row.{Row}
 use Rattle.rc_cell.specs.declared.writes.Tomb.{Tomb}
 use Rattle.rc_cell.specs.Winner.{empty_row}
-use Rattle.rc_core.specs.Chain.{flagged}
+use Rattle.rc_core.specs.Chain.{has_flag}
 use Rattle.rc_core.specs.Continuity.{static_states}
 use Rattle.rc_core.specs.Version.{end_position}
 use Rattle.rc_core.specs.declared.entries.ChainKind.TheVariants.{Cache}
 use Rattle.rc_core.specs.Steps.{free_number}
 use Rattle.rc_core.specs.laws.Pins.{pin-others}
-use Rattle.rc_memory.specs.Changes.{member}
+use Rattle.rc_memory.specs.Changes.{member_at}
 use Rattle.rc_memory.specs.Lists.{elem-first}
 use Rattle.rc_memory.specs.Memory.{HasPin, KeptChain, Memory, chain_at, counts_raised, snapshot_number, with_dropped, with_snapshot}
 use Rattle.rc_memory.specs.Recency.{IsRecency}
 use Rattle.rc_chain.specs.declared.chains.Snap.{Snap}
 use Rattle.rc_cached.specs.Evictions.{IsRoomMade}
-use Rattle.rc_cached.specs.Filling.{IsEntryOpened, chain_opened, given, opened_places}
+use Rattle.rc_cached.specs.Filling.{IsEntryOpened, chain_opened, filled_statics, opened_places}
 use Rattle.rc_cursor.specs.Snapshots.{kind_in, versions_in}
 use Rattle.rc_stream.specs.Snapshot.{NoneLost}
 use Rattle.rc_cached.specs.CacheFiller.{CacheFiller}
@@ -94,19 +94,19 @@ module _ (S : ℕ) (key : List ℕ) (pt : Option Tomb) (statics : Row) (phase : 
   left = rest-then old e.made told room (rest-told [] e.made)
 
   abbrev first : KeptChain
-  first = chain_opened pt (given statics) phase
+  first = chain_opened pt (filled_statics statics) phase
 
   abbrev entered-chain : KeptChain
   entered-chain = with_snapshot (snapshot_number first.chain) first
 
   pub entered-here : chain_at new s.chain ≡ Some entered-chain
-  entered-here = changed-now e.between new s.chain (λ k. with_snapshot (snapshot_number k.chain) k) (ap (λ (m : Memory). m.chains) e.taken.taken.now) first (opened-here s.chain pt (given statics) phase told e.between e.opened)
+  entered-here = changed-now e.between new s.chain (λ k. with_snapshot (snapshot_number k.chain) k) (ap (λ (m : Memory). m.chains) e.taken.taken.now) first (opened-here s.chain pt (filled_statics statics) phase told e.between e.opened)
 
   pub entered-beside : (i : ℕ) → (i ≡ s.chain → ⊥) → chain_at new i ≡ chain_at told i
-  entered-beside i ne = changed-beside e.between new s.chain (λ k. with_snapshot (snapshot_number k.chain) k) (ap (λ (m : Memory). m.chains) e.taken.taken.now) i ne ∙ opened-beside s.chain pt (given statics) phase told e.between e.opened i ne
+  entered-beside i ne = changed-beside e.between new s.chain (λ k. with_snapshot (snapshot_number k.chain) k) (ap (λ (m : Memory). m.chains) e.taken.taken.now) i ne ∙ opened-beside s.chain pt (filled_statics statics) phase told e.between e.opened i ne
 
   pub entered-pin : s.pin ≡ free_number []
-  entered-pin = subst (λ (o : Option KeptChain). IfSome o (λ q. s.pin ≡ free_number q.chain.pins)) (opened-here s.chain pt (given statics) phase told e.between e.opened) e.taken.taken.number
+  entered-pin = subst (λ (o : Option KeptChain). IfSome o (λ q. s.pin ≡ free_number q.chain.pins)) (opened-here s.chain pt (filled_statics statics) phase told e.between e.opened) e.taken.taken.number
 
   -- of its chain no other snapshot is there
   no-other : (pin : ℕ) → Pins pin (Some entered-chain) → (pin ≡ s.pin → ⊥) → ⊥
@@ -142,19 +142,19 @@ module _ (S : ℕ) (key : List ℕ) (pt : Option Tomb) (statics : Row) (phase : 
       }
 
   -- its static row is known
-  pub entered-statics : IsTrue (flagged Cache (static_states first.chain.versions)) → KnowsStaticRow new s
+  pub entered-statics : IsTrue (has_flag Cache (static_states first.chain.versions)) → KnowsStaticRow new s
   entered-statics known =
-      let at : (n : ℕ) → n ≡ free_number [] → IsTrue (flagged Cache (static_states (versions_in (Some entered-chain) n))) = λ n is. subst (λ p. IsTrue (flagged Cache (static_states (versions_in (Some entered-chain) p)))) (sym is) known in
-      subst (λ (o : Option KeptChain). IsTrue (flagged (kind_in o) (static_states (versions_in o s.pin)))) (sym entered-here) (at s.pin entered-pin)
+      let at : (n : ℕ) → n ≡ free_number [] → IsTrue (has_flag Cache (static_states (versions_in (Some entered-chain) n))) = λ n is. subst (λ p. IsTrue (has_flag Cache (static_states (versions_in (Some entered-chain) p)))) (sym is) known in
+      subst (λ (o : Option KeptChain). IsTrue (has_flag (kind_in o) (static_states (versions_in o s.pin)))) (sym entered-here) (at s.pin entered-pin)
 
   -- its end dummy is listed
-  first-place : (row : Option Row) → Contains (opened_places s.chain row) (member s.chain 0 (Some end_position))
-  first-place None = elem-first (member s.chain 0 (Some end_position)) []
-  first-place (Some row) = elem-first (member s.chain 0 (Some end_position)) (member s.chain 0 None ∷ [])
+  first-place : (row : Option Row) → Contains (opened_places s.chain row) (member_at s.chain 0 (Some end_position))
+  first-place None = elem-first (member_at s.chain 0 (Some end_position)) []
+  first-place (Some row) = elem-first (member_at s.chain 0 (Some end_position)) (member_at s.chain 0 None ∷ [])
 
-  pub entered-listed : Contains new.recency (member s.chain 0 (Some end_position))
-  entered-listed = subst (λ l. Contains l (member s.chain 0 (Some end_position))) (sym (ap (λ (m : Memory). m.recency) e.taken.taken.now ∙ e.opened.recency))
-      (Contains-append_right told.recency (opened_places s.chain (given statics)) (member s.chain 0 (Some end_position)) (first-place (given statics)))
+  pub entered-listed : Contains new.recency (member_at s.chain 0 (Some end_position))
+  entered-listed = subst (λ l. Contains l (member_at s.chain 0 (Some end_position))) (sym (ap (λ (m : Memory). m.recency) e.taken.taken.now ∙ e.opened.recency))
+      (Contains-append_right told.recency (opened_places s.chain (filled_statics statics)) (member_at s.chain 0 (Some end_position)) (first-place (filled_statics statics)))
 
 -- ---- no room can be made
 
@@ -190,9 +190,9 @@ refused-rest S pt statics phase old new (inr (made, room, inr (id, o))) make see
     let skipped : new.counts.skipped ≡ told.counts.skipped = ap (λ c. c.skipped) o.counts in
     let moved : new.region.moved ≡ told.region.moved = o.region.moved in
     record {
-      memtables = λ i k there kind. opened-keeps id pt (given statics) phase told new o i k (left.memtables i k there kind);
+      memtables = λ i k there kind. opened-keeps id pt (filled_statics statics) phase told new o i k (left.memtables i k there kind);
       seen = seen;
-      none_more = λ t on. left.none_more t (opened-none-more id pt (given statics) phase told new o t on);
+      none_more = λ t on. left.none_more t (opened-none-more id pt (filled_statics statics) phase told new o t on);
       segments = o.region.budget ∙ left.segments;
       counts = counts-then old told new left.counts (record { evicted = omega (arith, evicted); moved = omega (arith, moved); skipped = omega (arith, skipped) });
       bytes = bytes;

@@ -18,7 +18,7 @@ use Rattle.rc_cacheread.specs.Passing.{IsKnownOver}
 use Rattle.rc_cacheread.specs.Reading.{behind_row}
 use Rattle.rc_cacheread.specs.Sharing.{OfFiller}
 use Rattle.rc_snapshots.specs.Streams.{first_position}
-use Rattle.rc_lookup.specs.calls.Filling.{AllWritten, IsFilledBy, IsFilling, IsWritten, OneFill, SaysUpTo, past}
+use Rattle.rc_lookup.specs.calls.Filling.{IsFilledBy, IsFilling, IsNotEmptyRow, NoEmptyRows, OneFill, SaysUpToFragment, past}
 use Rattle.rc_lookup.proofs.Over.{over-gap, over-nothing, over-row, over-still}
 
 -- where nothing was lost in the end nothing was lost before or since
@@ -80,7 +80,7 @@ module _ {P H : Type 0} (fi : OfFiller P H) where
 
   -- what a fragment makes known
   abbrev pub KnownBy : P → H → P → H → Pos → Frag → Type 0
-  KnownBy p h q g x f = Unlost (fi.may p h) (fi.lost h) (fi.lost g) (IsWritten f → IsKnownOver (fi.knows p h) first_position x → IsKnownOver (fi.knows q g) first_position (past x f))
+  KnownBy p h q g x f = Unlost (fi.may p h) (fi.lost h) (fi.lost g) (IsNotEmptyRow f → IsKnownOver (fi.knows p h) first_position x → IsKnownOver (fi.knows q g) first_position (past x f))
 
   pub by-row : (p : P) (h : H) (q : P) (g : H) (x : Pos) (f : Frag) (key : List Comp) (row : Row) (r : Result (Unit {0}) AllocError) → f ≡ frag.Row key row → OnOk r (KnownBy p h q g x (frag.Row key row)) → OnOk r (KnownBy p h q g x f)
   by-row p h q g x f key row r e d = subst (λ z. OnOk r (KnownBy p h q g x z)) (sym e) d
@@ -89,17 +89,17 @@ module _ {P H : Type 0} (fi : OfFiller P H) where
   by-change p h q g x f from tomb (Ok y) e d = subst (KnownBy p h q g x) (sym e) (λ m none _ over. d m none over)
   by-change p h q g x f from tomb (Err y) e d = tt
 
-  pub filling-none : (all : List Frag) (p : P) (h : H) → fi.ready p h → AllWritten all → IsFilling fi all p h p h first_position None all
+  pub filling-none : (all : List Frag) (p : P) (h : H) → fi.ready p h → NoEmptyRows all → IsFilling fi all p h p h first_position None all
   filling-none all p h ready written = record { filled = filled-none p h ready; known = λ m e. over-nothing (fi.knows p h); stands = λ writes d s. (d, s); written = written }
 
   -- one fragment more
   pub filling-more : (all : List Frag) (p : P) (h : H) (q : P) (g : H) (r : P) (i : H) (x : Pos) (tomb : Option Tomb) (f : Frag) (left : List Frag) → IsFilling fi all p h q g x tomb (f ∷ left) → IsFilledBy fi q g r i →
-      Unlost (fi.may q g) (fi.lost g) (fi.lost i) (IsWritten f → IsKnownOver (fi.knows q g) first_position x → IsKnownOver (fi.knows r i) first_position (past x f)) →
-      ((writes : List Mutation) → fi.stands q g writes → SaysUpTo writes x tomb f → fi.stands r i writes) →
+      Unlost (fi.may q g) (fi.lost g) (fi.lost i) (IsNotEmptyRow f → IsKnownOver (fi.knows q g) first_position x → IsKnownOver (fi.knows r i) first_position (past x f)) →
+      ((writes : List Mutation) → fi.stands q g writes → SaysUpToFragment writes x tomb f → fi.stands r i writes) →
       IsFilling fi all p h r i (past x f) (tomb_after tomb f) left
   filling-more all p h q g r i x tomb f left a b known stands = record {
     filled = filled-then p h q g r i a.filled b;
-    known = known-then p h q g r i (IsKnownOver (fi.knows q g) first_position x) (IsWritten f → IsKnownOver (fi.knows q g) first_position x → IsKnownOver (fi.knows r i) first_position (past x f)) (IsKnownOver (fi.knows r i) first_position (past x f)) a.filled b a.known known (λ on here k. k a.written.0 here);
+    known = known-then p h q g r i (IsKnownOver (fi.knows q g) first_position x) (IsNotEmptyRow f → IsKnownOver (fi.knows q g) first_position x → IsKnownOver (fi.knows r i) first_position (past x f)) (IsKnownOver (fi.knows r i) first_position (past x f)) a.filled b a.known known (λ on here k. k a.written.0 here);
     stands = λ writes d s. (let e = a.stands writes d s in (stands writes e.0 e.1.0, e.1.1));
     written = a.written.1;
   }

@@ -16,7 +16,7 @@ use Rattle.rc_core.specs.Version.{end_position}
 use Rattle.rc_memory.specs.Memory.{Memory}
 use Rattle.rc_chain.specs.declared.chains.Snap.{Snap}
 use Rattle.rc_stream.specs.Places.{Reaches}
-use Rattle.rc_stream.specs.Stream.{clustered, first_upto, is_clustered, is_upto, rest, stream_of, without_head}
+use Rattle.rc_stream.specs.Stream.{clustered_front, first_upto, is_clustered, is_upto, rest, stream_of, without_head}
 use Rattle.rc_cursor.specs.declared.readers.SnapshotReader.{SnapshotReader}
 use Rattle.rc_cursor.specs.Snapshots.{Knows}
 use Rattle.rc_cacheread.specs.Passing.{IsKnownFrom, IsKnownOver}
@@ -27,13 +27,13 @@ use Rattle.rc_lookup.specs.calls.Reading.{AllClustered, IsPassable}
 
 -- ---- rows and changes
 
-pub clustered-all : (fs : List Frag) → AllClustered (clustered fs)
+pub clustered-all : (fs : List Frag) → AllClustered (clustered_front fs)
 clustered-all [] = tt
-clustered-all (f ∷ fs) = elim (is_clustered f) as (λ b. is_clustered f ≡ b → AllClustered (cond b (f ∷ clustered fs) [])) [ true ↦ λ e. (e, clustered-all fs) | false ↦ λ e. tt ] refl
+clustered-all (f ∷ fs) = elim (is_clustered f) as (λ b. is_clustered f ≡ b → AllClustered (cond b (f ∷ clustered_front fs) [])) [ true ↦ λ e. (e, clustered-all fs) | false ↦ λ e. tt ] refl
 
-all-clustered : (fs : List Frag) → AllClustered fs → clustered fs ≡ fs
+all-clustered : (fs : List Frag) → AllClustered fs → clustered_front fs ≡ fs
 all-clustered [] h = refl
-all-clustered (f ∷ fs) h = ap (λ b. cond b (f ∷ clustered fs) []) h.0 ∙ ap (λ gs. f ∷ gs) (all-clustered fs h.1)
+all-clustered (f ∷ fs) h = ap (λ b. cond b (f ∷ clustered_front fs) []) h.0 ∙ ap (λ gs. f ∷ gs) (all-clustered fs h.1)
 
 headless : (fs : List Frag) → AllClustered fs → without_head fs ≡ fs
 headless [] h = refl
@@ -45,7 +45,7 @@ headless (frag.End ∷ fs) h = (let e : false ≡ true = h.0 in absurd (cc))
 
 -- the stream of a head and of rows and changes behind it
 pub stream-made : (pt : Option Tomb) (row : Row) (fs : List Frag) → AllClustered fs → stream_of (frag.Start pt ∷ frag.Static row ∷ fs) ≡ record { head = record { pt = pt; statics = row }; tomb = None; left = fs }
-stream-made pt row fs h = ap (λ (left : List Frag). record { head = record { pt = pt; statics = row }; tomb = None; left = left }) (ap clustered (headless fs h) ∙ all-clustered fs h)
+stream-made pt row fs h = ap (λ (left : List Frag). record { head = record { pt = pt; statics = row }; tomb = None; left = left }) (ap clustered_front (headless fs h) ∙ all-clustered fs h)
 
 -- each stands before the end
 not-behind : (r : Ordering) → is_gt r ≡ false → is_le r ≡ true

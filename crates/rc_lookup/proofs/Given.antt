@@ -12,7 +12,7 @@ use Rattle.rc_position.specs.Position.{row_pos}
 use Rattle.rc_query.specs.declared.lines.OutLine.{OutLine}
 use Rattle.rc_query.specs.declared.lines.OutLine.TheVariants as line
 use Rattle.rc_chain.specs.Lives.{IsRemainder}
-use Rattle.rc_memory.specs.Changes.{member}
+use Rattle.rc_memory.specs.Changes.{member_at}
 use Rattle.rc_memory.specs.Lists.{elem-cases, elem-first, elem-later, elem-left, elem-none, elem-here, elem-split, once-beside}
 use Rattle.rc_memory.specs.Memory.{HasChain, IsMemberObject, KeptChain, Member, Memory, chain_at, listed_as}
 use Rattle.rc_memory.specs.Partitions.{standing}
@@ -21,7 +21,7 @@ use Rattle.rc_memory.specs.laws.At.{number-low}
 use Rattle.rc_core.specs.AtPlace.{HasEntryAt}
 use Rattle.rc_version.specs.Versions.{IsEntryFound}
 use Rattle.rc_lookup.specs.Touched.{AreRecent, AreTouched, IsLineOf, IsReordered, IsEntryOfRow}
-use Rattle.rc_lookup.specs.calls.Recent.{IsTurned}
+use Rattle.rc_lookup.specs.calls.Recent.{IsTurnedAlone}
 use Rattle.rc_schema.specs.SchemaValue.{SchemaValue}
 use Rattle.rc_row_cache.specs.Entries.{AreEntries}
 use Rattle.rc_row_cache.specs.Footprint.{AreInUse}
@@ -163,7 +163,7 @@ pub touched-like : (these those : Member → Type 0) (old new : Memory) → ((w 
 touched-like these those old new to from h = record { recency = recent-like these those old.recency new.recency to from h.recency; same = h.same; objects = h.objects }
 
 -- one object went to the back
-pub touched-one : (x : Member) (old new : Memory) → AllPairs ◌≢◌ old.recency → IsTurned x old new → AreTouched (λ w. w ≡ x) old new
+pub touched-one : (x : Member) (old new : Memory) → AllPairs ◌≢◌ old.recency → IsTurnedAlone x old new → AreTouched (λ w. w ≡ x) old new
 touched-one x old new once t = record {
   recency = elim t.recency [
     | inl none ↦ subst (AreRecent (λ w. w ≡ x) old.recency) (sym none.1) (recent-none (λ w. w ≡ x) old.recency (λ w on same. none.0 (subst (Contains old.recency) same on)))
@@ -198,8 +198,8 @@ below-or m n low = at-or-below m n (omega (arith, low))
 pub below-start : (id : ℕ) (key : List Comp) (m : Memory) → AreTouched (IsRowBelow id 0 key) m m
 below-start id key m = touched-none (IsRowBelow id 0 key) m (λ w on at. let low = at.1 in omega (arith, low))
 
-pub below-step : (id n : ℕ) (key : List Comp) (old mid new : Memory) → AreTouched (IsRowBelow id n key) old mid → AreTouched (λ w. w ≡ member id n (Some (row_pos key))) mid new → AreTouched (IsRowBelow id (n + 1) key) old new
-below-step id n key old mid new h g = touched-like (λ w. IsRowBelow id n key w ⊎ (w ≡ member id n (Some (row_pos key)))) (IsRowBelow id (n + 1) key) old new
+pub below-step : (id n : ℕ) (key : List Comp) (old mid new : Memory) → AreTouched (IsRowBelow id n key) old mid → AreTouched (λ w. w ≡ member_at id n (Some (row_pos key))) mid new → AreTouched (IsRowBelow id (n + 1) key) old new
+below-step id n key old mid new h g = touched-like (λ w. IsRowBelow id n key w ⊎ (w ≡ member_at id n (Some (row_pos key)))) (IsRowBelow id (n + 1) key) old new
     (λ w on at. elim at [
       | inl below ↦ (let low = below.1 in (below.0, omega (arith, low), below.2))
       | inr same ↦ (let is : w.version ≡ n = ap (λ (y : Member). y.version) same in (ap (λ (y : Member). y.chain) same, omega (arith, is), ap (λ (y : Member). y.position) same))
@@ -208,7 +208,7 @@ below-step id n key old mid new h g = touched-like (λ w. IsRowBelow id n key w 
       | inl low ↦ inl (at.0, low, at.2)
       | inr same ↦ inr (λ i. record { chain = at.0 i; version = same i; position = at.2 i })
     ])
-    (touched-then (IsRowBelow id n key) (λ w. w ≡ member id n (Some (row_pos key))) old mid new h g)
+    (touched-then (IsRowBelow id n key) (λ w. w ≡ member_at id n (Some (row_pos key))) old mid new h g)
 
 some-chain : (o : Option KeptChain) → IsSome o → (k : KeptChain) × (o ≡ Some k)
 some-chain None on = absurd (cc)
@@ -239,7 +239,7 @@ gone-touched m id lines rule gone = touched-none (IsLineOf id lines) m (λ w on 
 -- ---- the entry at a position
 
 module _ (m : Memory) (id number : ℕ) (n : Ref) (p : IsPlaced m id number n) (x : Pos) (o : Option Ref) where
-  pub entry-at : (r : Ref) (view : View) → view ≡ m.region → o ≡ Some r → IsEntryFound view p.standing.entries p.version x o → IsMemberObject m r (member id number (Some x))
+  pub entry-at : (r : Ref) (view : View) → view ≡ m.region → o ≡ Some r → IsEntryFound view p.standing.entries p.version x o → IsMemberObject m r (member_at id number (Some x))
   entry-at r view same is found =
       let f = subst (λ q. IsEntryFound m.region p.standing.entries p.version x q) is (subst (λ v. IsEntryFound v p.standing.entries p.version x o) same found) in
       record {
@@ -254,7 +254,7 @@ module _ (m : Memory) (id number : ℕ) (n : Ref) (p : IsPlaced m id number n) (
   none-found None view none found = found.1
   none-found (Some r) view none found = absurd (none r refl)
 
-  pub unfound : IsRecency m → (view : View) → ((r : Ref) → o ≡ Some r → ⊥) → IsEntryFound view p.standing.entries p.version x o → (w : Member) → Contains m.recency w → w ≡ member id number (Some x) → ⊥
+  pub unfound : IsRecency m → (view : View) → ((r : Ref) → o ≡ Some r → ⊥) → IsEntryFound view p.standing.entries p.version x o → (w : Member) → Contains m.recency w → w ≡ member_at id number (Some x) → ⊥
   unfound rule view none found w on same =
       none-found o view none found (subst (HasObject p.version) (ap (λ (y : Member). y.position) same) (listed-has m id number n p rule w on (ap (λ (y : Member). y.chain) same) (ap (λ (y : Member). y.version) same)))
 
@@ -296,7 +296,7 @@ giving-end id lines old now h = h.then now (touched-none (IsLineOf id []) now (�
 module _ (these : Member → Type 0) (old new : Memory) (t : AreTouched these old new) where
   pub touched-used : AreInUse old → AreInUse new
   touched-used u id k e idle = u id k (subst (λ (m : Memory). chain_at m id ≡ Some k) t.same e)
-      (record { cached = idle.cached; settled = idle.settled; unpinned = idle.unpinned; unlisted = λ j x on. idle.unlisted j x ((touched-reordered these old new t).kept (member id j x) on) })
+      (record { cached = idle.cached; settled = idle.settled; unpinned = idle.unpinned; unlisted = λ j x on. idle.unlisted j x ((touched-reordered these old new t).kept (member_at id j x) on) })
 
   pub touched-rest : LeavesRest old new
   touched-rest = rest-reordered old new (touched-reordered these old new t)

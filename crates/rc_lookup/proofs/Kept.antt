@@ -13,7 +13,7 @@ use Rattle.rc_mutation.specs.Source.{IsMutation, SameSource, source_at_head, sou
 use Rattle.rc_core.specs.Chains.{at_place, phase_at}
 use Rattle.rc_core.specs.Steps.{MayPopulate, free_number, pin_at}
 use Rattle.rc_core.specs.laws.Pins.{pin-freed, pin-is-pinned, pin-kept, pin-others, pin-was-free, pinned-by-number}
-use Rattle.rc_memory.specs.Changes.{member}
+use Rattle.rc_memory.specs.Changes.{member_at}
 use Rattle.rc_memory.specs.Memory.{HasChain, HasPin, IsSnapshotTaken, KeptChain, Memory, chain_at, on_chain, snapshot_number, with_dropped, with_snapshot, without_snapshot}
 use Rattle.rc_memory.specs.laws.Places.{same_some}
 use Rattle.rc_memory.specs.laws.Put.{put-at, put-beside}
@@ -204,7 +204,7 @@ module _ (s : Snap) (old mid : Memory) (taken : IsSnapshotTaken old mid s.chain 
           cached = left.cached;
           settled = left.settled;
           unpinned = λ j on. (let p = pinned-by-number k.0.chain.pins j on in left.unpinned j (pin-is-pinned (passed_by s.pin k.0).chain.pins p.0 j (same-pins k.0 s.pin p.0 (number k.0 k.1) ∙ p.1)));
-          unlisted = λ j at on. left.unlisted j at (subst (λ l. Contains l (member id j at)) (sym (ap (λ (m : Memory). m.recency) taken.now)) on);
+          unlisted = λ j at on. left.unlisted j at (subst (λ l. Contains l (member_at id j at)) (sym (ap (λ (m : Memory). m.recency) taken.now)) on);
         },
       )))
       (λ ne. (
@@ -214,7 +214,7 @@ module _ (s : Snap) (old mid : Memory) (taken : IsSnapshotTaken old mid s.chain 
           cached = idle.cached;
           settled = idle.settled;
           unpinned = idle.unpinned;
-          unlisted = λ j at on. idle.unlisted j at (subst (λ l. Contains l (member id j at)) (sym (ap (λ (m : Memory). m.recency) taken.now)) on);
+          unlisted = λ j at on. idle.unlisted j at (subst (λ l. Contains l (member_at id j at)) (sym (ap (λ (m : Memory). m.recency) taken.now)) on);
         },
       ))
 

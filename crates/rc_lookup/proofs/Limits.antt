@@ -21,7 +21,7 @@ use Rattle.rc_mutation.specs.Source.{IsMutation}
 use Rattle.rc_mutation.specs.laws.FragMerge.{changes-placed, fragment_of, merge, merge-in_order, merge_into, rows-placed}
 use Rattle.rc_writes.specs.Allowed.{ChangeFits}
 use Rattle.rc_core.specs.Version.{end_position}
-use Rattle.rc_lookup.specs.calls.Filling.{AllFit, IsFit, IsWritten, SaysAll, SaysNone, past}
+use Rattle.rc_lookup.specs.calls.Filling.{FragmentsFit, IsFit, IsNotEmptyRow, SaysAll, SaysNone, past}
 use Rattle.rc_lookup.proofs.Said.{spelled}
 
 pub none-fits : KeyFits []
@@ -52,22 +52,22 @@ RowsFit os = All (λ (e : Keyed). KeyFits e.0) os
 abbrev ChangesFit : List Change → Type 0
 ChangesFit bs = All (λ (b : Change). KeyFits b.0.prefix) bs
 
-rows-fit : (os : List Keyed) → RowsFit os → AllFit (list_map fragment_of (list_map placed_row os))
+rows-fit : (os : List Keyed) → RowsFit os → FragmentsFit (list_map fragment_of (list_map placed_row os))
 rows-fit [] h = tt
 rows-fit (a ∷ os) h = (All-head (λ (e : Keyed). KeyFits e.0) a os h, rows-fit os (All-tail (λ (e : Keyed). KeyFits e.0) a os h))
 
-changes-fit : (bs : List Change) → ChangesFit bs → AllFit (list_map fragment_of (list_map placed_change bs))
+changes-fit : (bs : List Change) → ChangesFit bs → FragmentsFit (list_map fragment_of (list_map placed_change bs))
 changes-fit [] h = tt
 changes-fit (b ∷ bs) h = (All-head (λ (c : Change). KeyFits c.0.prefix) b bs h, changes-fit bs (All-tail (λ (c : Change). KeyFits c.0.prefix) b bs h))
 
-merge_into-fit : (a : Keyed) (os : List Keyed) → KeyFits a.0 → RowsFit os → ((bs : List Change) → ChangesFit bs → AllFit (list_map fragment_of (merge os bs))) → (bs : List Change) → ChangesFit bs → AllFit (list_map fragment_of (merge_into a os (merge os) bs))
+merge_into-fit : (a : Keyed) (os : List Keyed) → KeyFits a.0 → RowsFit os → ((bs : List Change) → ChangesFit bs → FragmentsFit (list_map fragment_of (merge os bs))) → (bs : List Change) → ChangesFit bs → FragmentsFit (list_map fragment_of (merge_into a os (merge os) bs))
 merge_into-fit a os own rest ih [] h = (own, rows-fit os rest)
-merge_into-fit a os own rest ih (b ∷ bs) h = elim (is_lt (pos_cmp (row_pos a.0) b.0)) as (λ r. AllFit (list_map fragment_of (cond r (placed_row a ∷ merge os (b ∷ bs)) (placed_change b ∷ merge_into a os (merge os) bs)))) [
+merge_into-fit a os own rest ih (b ∷ bs) h = elim (is_lt (pos_cmp (row_pos a.0) b.0)) as (λ r. FragmentsFit (list_map fragment_of (cond r (placed_row a ∷ merge os (b ∷ bs)) (placed_change b ∷ merge_into a os (merge os) bs)))) [
   | true ↦ (own, ih (b ∷ bs) h)
   | false ↦ (All-head (λ (c : Change). KeyFits c.0.prefix) b bs h, merge_into-fit a os own rest ih bs (All-tail (λ (c : Change). KeyFits c.0.prefix) b bs h))
 ]
 
-merge-fit : (os : List Keyed) (bs : List Change) → RowsFit os → ChangesFit bs → AllFit (list_map fragment_of (merge os bs))
+merge-fit : (os : List Keyed) (bs : List Change) → RowsFit os → ChangesFit bs → FragmentsFit (list_map fragment_of (merge os bs))
 merge-fit [] bs g h = changes-fit bs h
 merge-fit (a ∷ os) bs g h =
     let rest = All-tail (λ (e : Keyed). KeyFits e.0) a os g in
@@ -90,28 +90,28 @@ pieces-fit (p ∷ ps) h =
       | false ↦ All-cons (λ (c : Change). KeyFits c.0.prefix) (p.to, None) (changes_of ps) ends.1 rest
     ])
 
-fit-end : (fs : List Frag) → AllFit fs → AllFit (fs ++ (frag.End ∷ []))
+fit-end : (fs : List Frag) → FragmentsFit fs → FragmentsFit (fs ++ (frag.End ∷ []))
 fit-end [] h = (tt, tt)
 fit-end (f ∷ fs) h = (h.0, fit-end fs h.1)
 
-fit-statics : (row : Row) (b : Bool) (fs : List Frag) → AllFit fs → AllFit (cond b (frag.Static row ∷ []) [] ++ fs)
+fit-statics : (row : Row) (b : Bool) (fs : List Frag) → FragmentsFit fs → FragmentsFit (cond b (frag.Static row ∷ []) [] ++ fs)
 fit-statics row true fs h = (tt, h)
 fit-statics row false fs h = h
 
-pub all-fit : (schema : SchemaValue) (m : Mutation) → IsMutation m → IsTrue (is_schema schema) → ChangeFits schema m → AllFit (fragments m)
+pub all-fit : (schema : SchemaValue) (m : Mutation) → IsMutation m → IsTrue (is_schema schema) → ChangeFits schema m → FragmentsFit (fragments m)
 all-fit schema m is limits fits =
     let rows : RowsFit m.rows = λ k d less. key_fits true schema _ limits (key_passes true schema _ (fits.rows k d less).0) in
     let ranges : All EndsFit m.ranges = λ k d less. (let ends = fits.ranges k d less in (key_fits false schema _ limits (key_passes false schema _ ends.0.1), key_fits false schema _ limits (key_passes false schema _ ends.1.1))) in
-    let left : AllFit (rows_and_changes m) = subst AllFit (merge-in_order m.rows (changes_of m.ranges) (rows-placed m.rows is.rows.ascend) (changes-placed m.ranges is.ranges)) (merge-fit m.rows (changes_of m.ranges) rows (pieces-fit m.ranges ranges)) in
-    subst AllFit (sym (spelled m)) (tt, fit-end (static_fragment m.statics ++ rows_and_changes m) (fit-statics m.statics (is_written m.statics) (rows_and_changes m) left))
+    let left : FragmentsFit (rows_and_changes m) = subst FragmentsFit (merge-in_order m.rows (changes_of m.ranges) (rows-placed m.rows is.rows.ascend) (changes-placed m.ranges is.ranges)) (merge-fit m.rows (changes_of m.ranges) rows (pieces-fit m.ranges ranges)) in
+    subst FragmentsFit (sym (spelled m)) (tt, fit-end (static_fragment m.statics ++ rows_and_changes m) (fit-statics m.statics (is_written m.statics) (rows_and_changes m) left))
 
 -- ---- a fragment of a loop
 
 pub fit-row : (f : Frag) (key : List Comp) (row : Row) → f ≡ frag.Row key row → IsFit f → KeyFits key
 fit-row f key row e h = subst IsFit e h
 
-pub written-row : (f : Frag) (key : List Comp) (row : Row) → f ≡ frag.Row key row → IsWritten f → row ≢ empty_row
-written-row f key row e h = subst IsWritten e h
+pub written-row : (f : Frag) (key : List Comp) (row : Row) → f ≡ frag.Row key row → IsNotEmptyRow f → row ≢ empty_row
+written-row f key row e h = subst IsNotEmptyRow e h
 
 pub fit-change : (f : Frag) (from : Pos) (tomb : Option Tomb) → f ≡ frag.Change from tomb → IsFit f → KeyFits from.prefix
 fit-change f from tomb e h = subst IsFit e h

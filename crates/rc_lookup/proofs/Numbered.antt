@@ -1,7 +1,7 @@
 -- The chain of a number, and those of others, where one is put there.
 use Rattle.std.proofs.Common.{◌≡◌, ℕ, Option, Some, None, refl, sym, ap, ◌∙◌, slice_index_or}
 use Rattle.std.specs.Option.{option_map}
-use Rattle.rc_registry.specs.Registry.{put}
+use Rattle.rc_registry.specs.Registry.{put_at_number}
 use Rattle.rc_memory.specs.Memory.{KeptChain, Memory, chain_at, on_chain}
 use Rattle.rc_memory.specs.laws.Put.{put-at, put-beside}
 
@@ -13,7 +13,7 @@ pub there-or-not : {X P : Type 0} (o : Option X) → (o ≡ None → P) → ((x 
 there-or-not None none some = none refl
 there-or-not (Some x) none some = some x refl
 
-module _ (old new : Memory) (id : ℕ) (o : Option KeptChain) (is : new.chains ≡ put id o old.chains) where
+module _ (old new : Memory) (id : ℕ) (o : Option KeptChain) (is : new.chains ≡ put_at_number id o old.chains) where
   pub chain-here : chain_at new id ≡ o
   chain-here = ap (λ cs. slice_index_or cs id None) is ∙ put-at old.chains id o
 

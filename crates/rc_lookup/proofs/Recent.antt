@@ -7,8 +7,8 @@ use Rattle.lsa_path.specs.laws.Steps.{objects-trans}
 use Rattle.lsa_region.specs.Region.{SameObjects}
 use Rattle.rc_memory.specs.Lists.{elem-first, elem-here, elem-later, elem-left, elem-none, elem-pushed, elem-replaced, elem-split, elem-still, once-beside}
 use Rattle.rc_memory.specs.Memory.{Member, Memory, listed_as}
-use Rattle.rc_lookup.specs.Touched.{IsTouched, is_beside}
-use Rattle.rc_lookup.specs.calls.Recent.{IsFrom, IsRaising, IsTurned}
+use Rattle.rc_lookup.specs.Touched.{IsChainTouched, is_beside}
+use Rattle.rc_lookup.specs.calls.Recent.{IsOfVersionOrNewer, IsRaising, IsTurnedAlone}
 
 -- ---- the objects of other chains
 
@@ -42,7 +42,7 @@ from-back front back x w on = elim (elem-pushed (front ++ back) x w on) [
 
 -- ---- from the first state on
 
-pub raise-start : (id : ℕ) (m : Memory) → IsRaising id (IsFrom 0) m m
+pub raise-start : (id : ℕ) (m : Memory) → IsRaising id (IsOfVersionOrNewer 0) m m
 raise-start id m = record {
   rest = m.recency;
   own = [];
@@ -72,7 +72,7 @@ module _ (id : ℕ) (left less : Member → Type 0) (first now : Memory) (h : Is
     objects = h.objects;
   }
 
-  module _ (new : Memory) (x : Member) (of : x.chain ≡ id) (t : IsTurned x now new) (narrow : (w : Member) → w.chain ≡ id → left w → (w ≡ x) ⊎ less w) where
+  module _ (new : Memory) (x : Member) (of : x.chain ≡ id) (t : IsTurnedAlone x now new) (narrow : (w : Member) → w.chain ≡ id → left w → (w ≡ x) ⊎ less w) where
     now-same : new ≡ listed_as new.recency new.region first
     now-same = t.same ∙ ap (λ (m : Memory). listed_as new.recency new.region m) h.same
 
@@ -163,7 +163,7 @@ module _ (id : ℕ) (left less : Member → Type 0) (first now : Memory) (h : Is
         let s = elem-split h.rest w on in
         once-beside s.0 (s.1 ++ h.own) w (subst (AllPairs ◌≢◌) (h.split ∙ ap (λ l. l ++ h.own) s.2 ∙ append_assoc s.0 (w ∷ s.1) h.own) once) (Contains-append_right s.0 (s.1 ++ h.own) w (Contains-append_right s.1 h.own w own))
 
-    pub raise-end : IsTouched id first now
+    pub raise-end : IsChainTouched id first now
     raise-end = record {
       recency = record {
         own = h.own;

@@ -4,7 +4,7 @@ use Rattle.std.specs.Prelude.{Contains, Err, IfNone, IfOk, Ok, OnErr, Result, fi
 use Rattle.std.specs.declared.alloc.AllocError.{AllocError}
 use Rattle.std.proofs.lemmas.List.Elements.{Contains-append_right}
 use Rattle.lsa_path.specs.laws.Steps.{objects-trans}
-use Rattle.rc_memory.specs.Changes.{member}
+use Rattle.rc_memory.specs.Changes.{member_at}
 use Rattle.rc_memory.specs.Lists.{elem-cases, elem-first, elem-later, elem-left, elem-none}
 use Rattle.rc_memory.specs.Memory.{HasPin, Member, Memory, chain_at}
 use Rattle.rc_row_cache.specs.Entries.{AreEntries}
@@ -13,7 +13,7 @@ use Rattle.rc_snapshots.specs.Seeing.{StillSees}
 use Rattle.rc_row_cache.specs.Footprint.{HaveOneVersion, memtable_bytes}
 use Rattle.rc_lookup.specs.Looked.{IsLookedUp, IsUnread}
 use Rattle.rc_lookup.specs.Rest.{LeavesRest}
-use Rattle.rc_lookup.specs.Touched.{IsMadeRecent, IsReordered, IsTouched, is_beside}
+use Rattle.rc_lookup.specs.Touched.{IsChainTouched, IsMadeRecent, IsReordered, is_beside}
 use Rattle.rc_lookup.proofs.Kept.{here-or-beside, unchanged}
 
 -- ---- the members
@@ -37,7 +37,7 @@ recent-kept id old new h w on = subst (λ l. Contains l w) (sym h.split) (here-o
     (λ own. Contains-append_right (filter (is_beside id) old) h.own w (h.all w on own))
     (λ ne. elem-left (filter (is_beside id) old) h.own w (filter-has (is_beside id) old w on (ap not (ne_eqb w.chain id ne)))))
 
-pub touched-reordered : (id : ℕ) (old new : Memory) → IsTouched id old new → IsReordered old new
+pub touched-reordered : (id : ℕ) (old new : Memory) → IsChainTouched id old new → IsReordered old new
 touched-reordered id old new t = record { kept = recent-kept id old.recency new.recency t.recency; same = t.same; objects = t.objects }
 
 pub same-reordered : (m : Memory) → IsReordered m m
@@ -64,7 +64,7 @@ module _ (old new : Memory) (r : IsReordered old new) where
     bytes = (let e : memtable_bytes new ≡ memtable_bytes old = ap memtable_bytes r.same in omega (arith, e));
     one = λ h. subst HaveOneVersion (sym r.same) h;
     used = λ h u id k e idle. u id k (subst (λ (m : Memory). chain_at m id ≡ Some k) r.same e)
-        (record { cached = idle.cached; settled = idle.settled; unpinned = idle.unpinned; unlisted = λ j x on. idle.unlisted j x (r.kept (member id j x) on) });
+        (record { cached = idle.cached; settled = idle.settled; unpinned = idle.unpinned; unlisted = λ j x on. idle.unlisted j x (r.kept (member_at id j x) on) });
   }
 
   -- what is looked up

@@ -4,7 +4,7 @@ use Rattle.std.specs.Prelude.{Contains, IsSomeAnd, filter}
 use Rattle.rc_core.specs.declared.entries.ChainKind.TheVariants.{Cache, Memtable}
 use Rattle.rc_core.specs.Steps.{pin_at}
 use Rattle.rc_core.specs.laws.Pins.{pin-is-pinned}
-use Rattle.rc_memory.specs.Changes.{member}
+use Rattle.rc_memory.specs.Changes.{member_at}
 use Rattle.rc_memory.specs.Kept.{present}
 use Rattle.rc_memory.specs.Memory.{HasPin, KeptChain, Memory, chain_at, on_chain, on_shown, shown_detached, with_dropped}
 use Rattle.rc_memory.specs.Room.{chain_bytes}
@@ -63,7 +63,7 @@ rest-same old new chains list segments counts =
       counts = counts;
       bytes = (let e : memtable_bytes new ≡ memtable_bytes old = ap (λ cs. sum_by chain_bytes (filter (is_chain_of Memtable) (present cs))) chains in omega (arith, e));
       one = λ h id k e cached. h id k (sym (at id) ∙ e) cached;
-      used = λ h u id k e idle. u id k (sym (at id) ∙ e) (record { cached = idle.cached; settled = idle.settled; unpinned = idle.unpinned; unlisted = λ j x on. idle.unlisted j x (subst (λ l. Contains l (member id j x)) (sym list) on) });
+      used = λ h u id k e idle. u id k (sym (at id) ∙ e) (record { cached = idle.cached; settled = idle.settled; unpinned = idle.unpinned; unlisted = λ j x on. idle.unlisted j x (subst (λ l. Contains l (member_at id j x)) (sym list) on) });
     }
 
 pub no-count-fell : (m : Memory) → NoCountFell m m

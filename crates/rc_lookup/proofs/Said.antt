@@ -27,7 +27,7 @@ use Rattle.rc_stream.specs.Stream.{force, is_passed, row_at, stream_of}
 use Rattle.rc_stream.specs.laws.Ordered.{itself}
 use Rattle.rc_cacheread.specs.Reading.{AreRowsApart, AreWritten, Reads, StandFrom, behind_row, row_of_these, said_at}
 use Rattle.rc_snapshots.specs.Streams.{first_position}
-use Rattle.rc_lookup.specs.calls.Filling.{AllWritten, SaysAll, SaysNone, past}
+use Rattle.rc_lookup.specs.calls.Filling.{NoEmptyRows, SaysAll, SaysNone, past}
 use Rattle.rc_lookup.proofs.Gathered.{reaches-end}
 use Rattle.rc_lookup.proofs.Orders.{before-reach, before-reaches, reach-itself, reach-through}
 
@@ -145,7 +145,7 @@ behind-statics : (writes : List Mutation) (x : Pos) (tomb : Option Tomb) (row : 
 behind-statics writes x tomb row true fs s = (tt, s)
 behind-statics writes x tomb row false fs s = s
 
-written-end : (fs : List Frag) → AreWritten fs → AllWritten (fs ++ (frag.End ∷ []))
+written-end : (fs : List Frag) → AreWritten fs → NoEmptyRows (fs ++ (frag.End ∷ []))
 written-end [] w = (tt, tt)
 written-end (frag.Start pt ∷ fs) w = (tt, written-end fs w)
 written-end (frag.Static row ∷ fs) w = (tt, written-end fs w)
@@ -166,8 +166,8 @@ module _ (m : Mutation) (left : (stream_of (fragments m)).left ≡ rows_and_chan
   inner = subst (Reads (SayThere (m ∷ [])) first_position end_position None) left reads
 
   -- what is written in its fragments
-  pub all-written : AllWritten (fragments m)
-  all-written = subst AllWritten (sym (spelled m)) (tt, written-end (static_fragment m.statics ++ rows_and_changes m) (written-statics m.statics (is_written m.statics) (rows_and_changes m) inner.written))
+  pub all-written : NoEmptyRows (fragments m)
+  all-written = subst NoEmptyRows (sym (spelled m)) (tt, written-end (static_fragment m.statics ++ rows_and_changes m) (written-statics m.statics (is_written m.statics) (rows_and_changes m) inner.written))
 
   -- writes that say the same say all of its fragments
   pub says-all : (writes : List Mutation) → SameSource (m ∷ []) writes → SaysAll writes first_position None (fragments m)

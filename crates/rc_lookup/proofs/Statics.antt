@@ -10,13 +10,13 @@ use Rattle.rc_mutation.specs.Source.{IsMutation}
 use Rattle.rc_writes.specs.Allowed.{ChangeFits}
 use Rattle.rc_version.specs.Versions.{statics_bytes}
 use Rattle.rc_cached.specs.Writes.{AreSmall}
-use Rattle.rc_cached.specs.Filling.{given}
+use Rattle.rc_cached.specs.Filling.{filled_statics}
 
 module _ (S : ℕ) (schema : SchemaValue) (limits : IsTrue (is_schema schema)) (small : AreSmall S schema) (m : Mutation) (is : IsMutation m) (fits : ChangeFits schema m) where
   pub statics-fit : RowFits m.statics
   statics-fit = cells_fit true schema m.statics.cells limits (cells_pass true schema m.statics.cells fits.statics.2)
 
-  pub statics-small : statics_bytes (given m.statics) ≤ S / 8
+  pub statics-small : statics_bytes (filled_statics m.statics) ≤ S / 8
   statics-small =
       let within = static_within schema m.statics limits fits.statics.0 fits.statics.1 (cells_pass true schema m.statics.cells fits.statics.2) is.statics in
       let least = small.statics in

@@ -10,7 +10,7 @@ use Rattle.rc_core.specs.Steps.{MayPopulate, pin_at}
 use Rattle.rc_core.specs.Version.{Version, end_position}
 use Rattle.rc_core.specs.laws.Pins.{pin-freed, pin-is-pinned, pin-kept}
 use Rattle.rc_registry.specs.Registry.{AreFree}
-use Rattle.rc_memory.specs.Changes.{member}
+use Rattle.rc_memory.specs.Changes.{member_at}
 use Rattle.rc_memory.specs.Lists.{elem-cases, elem-first, elem-later, elem-none}
 use Rattle.rc_memory.specs.Memory.{HasPin, KeptChain, Member, Memory, chain_at, without_snapshot}
 use Rattle.rc_memory.specs.laws.Places.{same_some}
@@ -61,7 +61,7 @@ busy-by m id k false settled cached = elim (pin-or-free k.chain.pins) [
   | inl pin ↦ inr (λ idle. idle.unpinned pin.0 pin.1)
   | inr free ↦ elim (own-or-none m.recency id) [
     | inl own ↦ inr (λ idle. idle.unlisted own.0.version own.0.position (subst (Contains m.recency) (λ i. record { chain = own.2 i; version = own.0.version; position = own.0.position }) own.1))
-    | inr none ↦ inl (record { cached = cached; settled = settled; unpinned = free; unlisted = λ j at on. none (member id j at) on refl })
+    | inr none ↦ inl (record { cached = cached; settled = settled; unpinned = free; unlisted = λ j at on. none (member_at id j at) on refl })
   ]
 ]
 
@@ -199,7 +199,7 @@ take-all (v ∷ vs) = ap (λ us. v ∷ us) (take-all vs)
 
 -- where all of it is known to a snapshot that may be filled, and something of the chain is listed, the chain stays, to whose newest version it is known
 pub known-swept : (s : Snap) (x new : Memory) (h : HasCacheSnapshot x s.chain s.pin) → IsSweptThen s x new h.chain h.there h.cached → MayFill x s.chain s.pin → KnowsStaticRow x s → IsKnownOver (Knows x s) first_position end_position →
-    (j : ℕ) (at : Option Pos) → Contains x.recency (member s.chain j at) → IsChainKnown new s.chain
+    (j : ℕ) (at : Option Pos) → Contains x.recency (member_at s.chain j at) → IsChainKnown new s.chain
 known-swept s x new h swept may statics over j at on = elim swept [
   | inl gone ↦ absurd (gone.0.unlisted j at on)
   | inr kept ↦

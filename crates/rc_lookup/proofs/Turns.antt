@@ -1,7 +1,7 @@
 -- Fills through one snapshot, one after another: what they leave.
 use Rattle.std.proofs.Common.{inl, inr, ◌≡◌, ◌⊎◌, ◌≤◌, ◌<◌, ◌++◌, ℕ, zero, suc, [], Some, None, length, refl, sym, ap, ◌∙◌, subst, arith}
 use Rattle.std.specs.Prelude.{Contains, IsTrue}
-use Rattle.rc_core.specs.Chain.{content, flagged}
+use Rattle.rc_core.specs.Chain.{content, has_flag}
 use Rattle.rc_core.specs.Continuity.{static_states}
 use Rattle.rc_core.specs.declared.entries.ChainKind.TheVariants.{Memtable}
 use Rattle.rc_registry.specs.Registry.{IsNumberIn}
@@ -25,7 +25,7 @@ use Rattle.rc_row_cache.specs.Footprint.{AreInUse, HaveOneVersion, memtable_byte
 use Rattle.rc_lookup.specs.Rest.{LeavesRest}
 use Rattle.rc_lookup.specs.calls.Entering.{IsFilledThrough, KnowsStaticRow}
 use Rattle.rc_lookup.specs.calls.Filling.{OneFill}
-use Rattle.rc_lookup.specs.calls.Words.{of_its_filler}
+use Rattle.rc_cached.specs.Parts.{of_its_filler}
 use Rattle.rc_lookup.specs.laws.Lost.{raised-low, raised-top}
 use Rattle.rc_lookup.proofs.Counted.{filled-losses, room-leaves, room-none, room-raised, room-range, skip-losses}
 use Rattle.rc_lookup.proofs.Fills.{between, many-many}
@@ -100,7 +100,7 @@ module _ (S : ℕ) where
 
   -- the static row is known to a snapshot, by its chain and its number
   abbrev pub KnowsStatics : Memory → ℕ → ℕ → Type 0
-  KnowsStatics m id pin = IsTrue (flagged (kind_in (chain_at m id)) (static_states (versions_in (chain_at m id) pin)))
+  KnowsStatics m id pin = IsTrue (has_flag (kind_in (chain_at m id)) (static_states (versions_in (chain_at m id) pin)))
 
   -- a filler of a snapshot
   abbrev pub IsFillerOf : Snap → StreamFiller → Type 0

@@ -18,7 +18,7 @@ use Rattle.rc_version.specs.Versions.{HoldEntries, IsStaticRowFound, IsStaticsOf
 use Rattle.rc_version.specs.laws.Objects.{holds-stands}
 use Rattle.rc_memory.specs.Lists.{elem-here}
 use Rattle.rc_memory.specs.Partitions.{PartitionEntry, StandingVersion, standing}
-use Rattle.rc_memory.specs.Changes.{Nowhere, OfVersion, StandStill, member}
+use Rattle.rc_memory.specs.Changes.{Nowhere, OfVersion, StandStill, member_at}
 use Rattle.rc_memory.specs.Memory.{HasChain, HasVersion, IsMemberObject, IsVersionAt, IsVersionObject, KeptChain, Member, Memory, chain_at, listed_as}
 use Rattle.rc_memory.specs.Recency.{HasObject, IsRecency, MayBeListed}
 use Rattle.rc_memory.specs.laws.At.{number-low, number-there}
@@ -26,7 +26,7 @@ use Rattle.rc_memory.specs.laws.Listed.{one-at}
 use Rattle.rc_memory.specs.laws.Places.{same_some}
 use Rattle.rc_memory.specs.laws.Still.{still-itself, still-then}
 use Rattle.rc_recency.specs.laws.Held.{IsStandingAs}
-use Rattle.rc_lookup.specs.calls.Recent.{IsEntryFrom, IsFrom, IsRaising, IsTurned}
+use Rattle.rc_lookup.specs.calls.Recent.{IsEntryOfVersionOrNewer, IsOfVersionOrNewer, IsRaising, IsTurnedAlone}
 use Rattle.rc_lookup.proofs.Recent.{raise-less, raise-step}
 
 -- ---- a version of a chain
@@ -68,10 +68,10 @@ module _ (m : Memory) (id number : ℕ) (n : Ref) (p : IsPlaced m id number n) w
       subst (λ v. HasObject v w.position) v may.object
 
   -- the static row's object
-  pub static-member : (r : Ref) → IsStaticsOf m.region n r → IsMemberObject m r (member id number None)
+  pub static-member : (r : Ref) → IsStaticsOf m.region n r → IsMemberObject m r (member_at id number None)
   static-member r is = record { partition = p.standing.partition; version = standing n p.standing.entries p.version; chain = p.standing.there; number = p.standing.number; object = is }
 
-  pub entry-member : (front back : List Ref) (r : Ref) (e : Entry) → p.standing.entries ≡ front ++ (r ∷ back) → HoldsEntry m.region r e → IsMemberObject m r (member id number (Some e.position))
+  pub entry-member : (front back : List Ref) (r : Ref) (e : Entry) → p.standing.entries ≡ front ++ (r ∷ back) → HoldsEntry m.region r e → IsMemberObject m r (member_at id number (Some e.position))
   entry-member front back r e split held = record {
     partition = p.standing.partition;
     version = standing n p.standing.entries p.version;
@@ -97,11 +97,11 @@ at-or-behind zero (suc n) low = inl (omega arith)
 at-or-behind (suc m) zero low = absurd (omega (arith, low))
 at-or-behind (suc m) (suc n) low = elim (at-or-behind m n (omega (arith, low))) [ inl less ↦ inl (omega (arith, less)) | inr same ↦ inr (ap suc same) ]
 
-static-or-entry : (id number : ℕ) (w : Member) (at : Option Pos) → w.position ≡ at → w.chain ≡ id → w.version ≡ number → (w ≡ member id number None) ⊎ IsSome w.position
+static-or-entry : (id number : ℕ) (w : Member) (at : Option Pos) → w.position ≡ at → w.chain ≡ id → w.version ≡ number → (w ≡ member_at id number None) ⊎ IsSome w.position
 static-or-entry id number w None at of same = inl (λ i. record { chain = of i; version = same i; position = at i })
 static-or-entry id number w (Some x) at of same = inr (subst (λ (o : Option Pos). IsSome o) (sym at) refl)
 
-pub static-narrow : (id number : ℕ) (w : Member) → w.chain ≡ id → IsFrom number w → (w ≡ member id number None) ⊎ IsEntryFrom number w
+pub static-narrow : (id number : ℕ) (w : Member) → w.chain ≡ id → IsOfVersionOrNewer number w → (w ≡ member_at id number None) ⊎ IsEntryOfVersionOrNewer number w
 static-narrow id number w of low = elim (at-or-behind number w.version low) [
   | inl less ↦ inr (inl less)
   | inr same ↦ elim (static-or-entry id number w w.position refl of same) [ inl this ↦ inl this | inr entry ↦ inr (inr (same, entry)) ]
@@ -112,7 +112,7 @@ unfound-none v c None h none = h
 unfound-none v c (Some r) h none = absurd (none r refl)
 
 -- where there is none
-pub none-narrow : (m : Memory) (id number : ℕ) (n : Ref) (p : IsPlaced m id number n) → IsRecency m → p.version.statics ≡ None → (w : Member) → Contains m.recency w → w.chain ≡ id → IsFrom number w → IsEntryFrom number w
+pub none-narrow : (m : Memory) (id number : ℕ) (n : Ref) (p : IsPlaced m id number n) → IsRecency m → p.version.statics ≡ None → (w : Member) → Contains m.recency w → w.chain ≡ id → IsOfVersionOrNewer number w → IsEntryOfVersionOrNewer number w
 none-narrow m id number n p rule none w on of low = elim (static-narrow id number w of low) [
   | inl this ↦ absurd (unset p.version.statics none (subst (HasObject p.version) (ap (λ (x : Member). x.position) this) (listed-has m id number n p rule w on of (ap (λ (x : Member). x.version) this))))
   | inr entry ↦ entry
@@ -142,7 +142,7 @@ pub record IsWalked (id number : ℕ) (m : Memory) (refs : List Ref) (next : Opt
   pub first : next ≡ first_entry left
   pub held : HoldEntries m.region left ahead
   pub count : length passed ≡ steps
-  pub raised : (before : Memory) → IsRaising id (IsEntryFrom number) before m → IsRaising id (IsAhead number ahead) before now
+  pub raised : (before : Memory) → IsRaising id (IsEntryOfVersionOrNewer number) before m → IsRaising id (IsAhead number ahead) before now
   pub same : now ≡ listed_as now.recency now.region m
   pub still : StandStill Nowhere m now
 
@@ -155,7 +155,7 @@ walk-begun m id number n p next rule first = record {
   first = first;
   held = p.whole.entries;
   count = refl;
-  raised = λ before h. raise-less id (IsEntryFrom number) (IsAhead number p.version.entries) before m h
+  raised = λ before h. raise-less id (IsEntryOfVersionOrNewer number) (IsAhead number p.version.entries) before m h
       (λ w on of left. elim left [ inl less ↦ inl less | inr here ↦ inr (here.0, place w.position here.1 (listed-has m id number n p rule w on of here.0)) ]);
   same = refl;
   still = still-itself Nowhere m;
@@ -175,11 +175,11 @@ pub record IsNext (id number : ℕ) (m : Memory) (refs : List Ref) (r : Ref) (st
   pub here : HoldsEntry m.region r entry
   pub held : HoldEntries m.region back behind
   pub count : length passed ≡ steps
-  pub raised : (before : Memory) → IsRaising id (IsEntryFrom number) before m → IsRaising id (IsAhead number (entry ∷ behind)) before now
+  pub raised : (before : Memory) → IsRaising id (IsEntryOfVersionOrNewer number) before m → IsRaising id (IsAhead number (entry ∷ behind)) before now
 
 module _ (id number : ℕ) (m : Memory) (refs : List Ref) where
   next-of : (r : Ref) (steps : ℕ) (now : Memory) (passed left : List Ref) (ahead : List Entry) → refs ≡ passed ++ left → Some r ≡ first_entry left → HoldEntries m.region left ahead → length passed ≡ steps
-      → ((before : Memory) → IsRaising id (IsEntryFrom number) before m → IsRaising id (IsAhead number ahead) before now) → IsNext id number m refs r steps now
+      → ((before : Memory) → IsRaising id (IsEntryOfVersionOrNewer number) before m → IsRaising id (IsAhead number ahead) before now) → IsNext id number m refs r steps now
   next-of r steps now passed [] ahead split first held count raised = absurd (cc first)
   next-of r steps now passed (q ∷ back) [] split first held count raised = absurd held
   next-of r steps now passed (q ∷ back) (e ∷ es) split first held count raised = let same : q ≡ r = cc first in record {
@@ -198,7 +198,7 @@ module _ (id number : ℕ) (m : Memory) (refs : List Ref) where
   next-there r next steps now w is = next-of r steps now w.passed w.left w.ahead w.split (sym is ∙ w.first) w.held w.count w.raised
 
   -- one more went to the back
-  pub walk-more : (r : Ref) (next then : Option Ref) (steps : ℕ) (now new : Memory) → IsWalked id number m refs next steps now → (a : IsNext id number m refs r steps now) → then ≡ first_entry a.back → IsTurned (member id number (Some a.entry.position)) now new → IsWalked id number m refs then (steps + 1) new
+  pub walk-more : (r : Ref) (next then : Option Ref) (steps : ℕ) (now new : Memory) → IsWalked id number m refs next steps now → (a : IsNext id number m refs r steps now) → then ≡ first_entry a.back → IsTurnedAlone (member_at id number (Some a.entry.position)) now new → IsWalked id number m refs then (steps + 1) new
   walk-more r next then steps now new w a first t = record {
     passed = a.passed ++ (r ∷ []);
     left = a.back;
@@ -207,23 +207,23 @@ module _ (id number : ℕ) (m : Memory) (refs : List Ref) where
     first = first;
     held = a.held;
     count = omega (arith, length-append a.passed (r ∷ []), a.count);
-    raised = λ before h. raise-step id (IsAhead number (a.entry ∷ a.behind)) (IsAhead number a.behind) before now (a.raised before h) new (member id number (Some a.entry.position)) refl t narrow;
+    raised = λ before h. raise-step id (IsAhead number (a.entry ∷ a.behind)) (IsAhead number a.behind) before now (a.raised before h) new (member_at id number (Some a.entry.position)) refl t narrow;
     same = t.same ∙ ap (λ (x : Memory). listed_as new.recency new.region x) w.same;
     still = still-then Nowhere m now new w.still t.still;
   }
     where
-      narrow_at : (x : Member) (o : Option Pos) → x.position ≡ o → x.chain ≡ id → x.version ≡ number → IsPlaceOf (a.entry ∷ a.behind) o → (x ≡ member id number (Some a.entry.position)) ⊎ IsPlaceOf a.behind x.position
+      narrow_at : (x : Member) (o : Option Pos) → x.position ≡ o → x.chain ≡ id → x.version ≡ number → IsPlaceOf (a.entry ∷ a.behind) o → (x ≡ member_at id number (Some a.entry.position)) ⊎ IsPlaceOf a.behind x.position
       narrow_at x None at of same there = absurd there
       narrow_at x (Some p) at of same (inl here) = inl (λ i. record { chain = of i; version = same i; position = (at ∙ ap Some (sym here)) i })
       narrow_at x (Some p) at of same (inr more) = inr (subst (IsPlaceOf a.behind) (sym at) more)
 
-      narrow : (x : Member) → x.chain ≡ id → IsAhead number (a.entry ∷ a.behind) x → (x ≡ member id number (Some a.entry.position)) ⊎ IsAhead number a.behind x
+      narrow : (x : Member) → x.chain ≡ id → IsAhead number (a.entry ∷ a.behind) x → (x ≡ member_at id number (Some a.entry.position)) ⊎ IsAhead number a.behind x
       narrow x of (inl newer) = inr (inl newer)
       narrow x of (inr here) = elim (narrow_at x x.position refl of here.0 here.1) [ inl this ↦ inl this | inr more ↦ inr (inr (here.0, more)) ]
 
   -- where none is left all did
-  ended : (steps : ℕ) (now : Memory) (left : List Ref) (ahead : List Entry) → left ≡ [] → HoldEntries m.region left ahead → (before : Memory) → IsRaising id (IsAhead number ahead) before now → IsRaising id (IsFrom (number + 1)) before now
-  ended steps now [] [] none held before h = raise-less id (IsAhead number []) (IsFrom (number + 1)) before now h (λ w on of left. elim left [ inl newer ↦ omega (arith, newer) | inr here ↦ absurd (nothing w.position here.1) ])
+  ended : (steps : ℕ) (now : Memory) (left : List Ref) (ahead : List Entry) → left ≡ [] → HoldEntries m.region left ahead → (before : Memory) → IsRaising id (IsAhead number ahead) before now → IsRaising id (IsOfVersionOrNewer (number + 1)) before now
+  ended steps now [] [] none held before h = raise-less id (IsAhead number []) (IsOfVersionOrNewer (number + 1)) before now h (λ w on of left. elim left [ inl newer ↦ omega (arith, newer) | inr here ↦ absurd (nothing w.position here.1) ])
     where
       nothing : (o : Option Pos) → IsPlaceOf [] o → ⊥
       nothing None there = there
@@ -231,7 +231,7 @@ module _ (id number : ℕ) (m : Memory) (refs : List Ref) where
   ended steps now [] (e ∷ es) none held before h = absurd held
   ended steps now (r ∷ left) ahead none held before h = absurd (cc none)
 
-  pub walk-ended : (next : Option Ref) (steps : ℕ) (now : Memory) → next ≡ None → IsWalked id number m refs next steps now → (before : Memory) → IsRaising id (IsEntryFrom number) before m → IsRaising id (IsFrom (number + 1)) before now
+  pub walk-ended : (next : Option Ref) (steps : ℕ) (now : Memory) → next ≡ None → IsWalked id number m refs next steps now → (before : Memory) → IsRaising id (IsEntryOfVersionOrNewer number) before m → IsRaising id (IsOfVersionOrNewer (number + 1)) before now
   walk-ended next steps now is w before h = ended steps now w.left w.ahead (none-left w.left (sym is ∙ w.first)) w.held before (w.raised before h)
     where
       none-left : (left : List Ref) → None ≡ first_entry left → left ≡ []
@@ -239,7 +239,7 @@ module _ (id number : ℕ) (m : Memory) (refs : List Ref) where
       none-left (r ∷ left) e = cc e
 
   -- after so many steps none is left
-  pub walk-passed : (next : Option Ref) (steps : ℕ) (now : Memory) → length refs ≤ steps → IsWalked id number m refs next steps now → (before : Memory) → IsRaising id (IsEntryFrom number) before m → IsRaising id (IsFrom (number + 1)) before now
+  pub walk-passed : (next : Option Ref) (steps : ℕ) (now : Memory) → length refs ≤ steps → IsWalked id number m refs next steps now → (before : Memory) → IsRaising id (IsEntryOfVersionOrNewer number) before m → IsRaising id (IsOfVersionOrNewer (number + 1)) before now
   walk-passed next steps now most w before h = ended steps now w.left w.ahead (none-left w.left (omega (arith, most, ap length w.split, length-append w.passed w.left, w.count))) w.held before (w.raised before h)
     where
       none-left : (left : List Ref) → length left ≡ 0 → left ≡ []
@@ -274,7 +274,7 @@ has-number first now id number count same has long low =
     subst (λ (m : Memory). HasVersion m id number) (sym same) (subst (λ (o : Option KeptChain). IsSomeAnd o (λ q. number < length q.chain.versions)) (sym k.1) (omega (arith, low, all)))
 
 -- behind its last version nothing of it is listed
-pub none-from : (m : Memory) (id number : ℕ) → IsRecency m → HasChain m id → ((k : KeptChain) → chain_at m id ≡ Some k → length k.chain.versions ≤ number) → (w : Member) → Contains m.recency w → w.chain ≡ id → IsFrom number w → ⊥
+pub none-from : (m : Memory) (id number : ℕ) → IsRecency m → HasChain m id → ((k : KeptChain) → chain_at m id ≡ Some k → length k.chain.versions ≤ number) → (w : Member) → Contains m.recency w → w.chain ≡ id → IsOfVersionOrNewer number w → ⊥
 none-from m id number rule has long w on of from =
     let k = some-of (chain_at m id) has in
     let may : MayBeListed k.0.chain w.version w.position = subst (λ (o : Option KeptChain). IsSomeAnd o (λ q. MayBeListed q.chain w.version w.position)) (ap (chain_at m) of ∙ k.1) (rule.members w on) in

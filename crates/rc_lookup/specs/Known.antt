@@ -3,7 +3,7 @@
 --     IsChainKnown        so it is to a chain
 --     IsSnapKnown         so it is to a snapshot
 use Rattle.std.specs.Prelude.{ℕ, List, IsSomeAnd, IsTrue}
-use Rattle.rc_core.specs.Chain.{flagged}
+use Rattle.rc_core.specs.Chain.{has_flag}
 use Rattle.rc_core.specs.Continuity.{static_states}
 use Rattle.rc_core.specs.declared.entries.ChainKind.{ChainKind}
 use Rattle.rc_core.specs.Version.{Version, end_position}
@@ -16,7 +16,7 @@ use Rattle.rc_snapshots.specs.Streams.{first_position}
 -- all of the partition is known in versions: the static row, and each position, but for those inside a row
 pub record IsPartitionKnown (kind : ChainKind) (versions : List Version) : Type 0 where
   pub each : IsKnownOver (IsKnownAs kind versions) first_position end_position
-  pub static_row : IsTrue (flagged kind (static_states versions))
+  pub static_row : IsTrue (has_flag kind (static_states versions))
 
 -- a chain is there, to whose newest version all of its partition is known
 abbrev pub IsChainKnown : Memory → ℕ → Type 0

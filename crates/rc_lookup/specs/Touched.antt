@@ -1,7 +1,7 @@
 -- How what is read of the cache becomes the most recent of its recency list.
 --     is_beside       a place is of another chain
 --     IsMadeRecent    the objects of a chain are the most recent ones
---     IsTouched       so they are, and nothing else changed
+--     IsChainTouched  so they are, and nothing else changed
 --     IsReordered     the recency list has its members in some order, and nothing else changed
 --     IsEntryOfRow, IsLineOf, IsEntryOfGiven    a place is that of a row's entry, or of one of several
 --     AreRecent       the objects at some places are the most recent ones
@@ -27,7 +27,7 @@ pub record IsMadeRecent (id : ℕ) (old new : List Member) : Type 0 where
   pub all : (w : Member) → Contains old w → w.chain ≡ id → Contains own w
 
 -- so they are; the chains, the numbers to be told and the counts are as they were, and no object moved, came or went
-pub record IsTouched (id : ℕ) (old new : Memory) : Type 0 where
+pub record IsChainTouched (id : ℕ) (old new : Memory) : Type 0 where
   pub recency : IsMadeRecent id old.recency new.recency
   pub same : new ≡ listed_as new.recency new.region old
   pub objects : SameObjects old.region new.region

@@ -15,8 +15,8 @@ ghost use Rattle.rc_cacheread.specs.Reading.{behind_row};
 ghost use Rattle.rc_snapshots.specs.Streams.{first_position};
 ghost use Rattle.rc_row_cache.specs.Crowding.{LosesWhereCrowded};
 ghost use Rattle.rc_row_cache.specs.Fillers.{FillerKnows, IsFillerReady, losses};
-ghost use Rattle.rc_lookup.specs.calls.Filling.{AllFit, AllWritten, IsFilledBy, IsFit, IsWritten, SaysAll, SaysNone, SaysUpTo, past};
-ghost use Rattle.rc_lookup.specs.calls.Words.{of_its_filler};
+ghost use Rattle.rc_lookup.specs.calls.Filling.{FragmentsFit, IsFilledBy, IsFit, IsNotEmptyRow, NoEmptyRows, SaysAll, SaysNone, SaysUpToFragment, past};
+ghost use Rattle.rc_cached.specs.Parts.{of_its_filler};
 
 use crate::places::bare;
 use rc_cached::StreamFiller;
@@ -185,11 +185,11 @@ fn fill_one<const S: usize>(
     frag: &Frag,
 ) -> Result<(), AllocError>
     requires ready { IsFillerReady S filler.now.filler home.old }
-    requires source { (writes : List Mutation) × StandsForWrites S home.old filler.now.filler.chain filler.now.filler.pin writes × SaysUpTo writes reached.old.at reached.old.tomb frag.now }
+    requires source { (writes : List Mutation) × StandsForWrites S home.old filler.now.filler.chain filler.now.filler.pin writes × SaysUpToFragment writes reached.old.at reached.old.tomb frag.now }
     ensures filled { IsFilledBy (of_its_filler S) filler.now home.old filler.now home.new }
-    ensures known { OnOk result (Unlost (MayFill home.old filler.now.filler.chain filler.now.filler.pin) (losses home.old) (losses home.new) (IsWritten frag.now → IsKnownOver (FillerKnows home.old filler.now.filler) first_position reached.old.at → IsKnownOver (FillerKnows home.new filler.now.filler) first_position (past reached.old.at frag.now))) }
-    ensures stands { (writes : List Mutation) → StandsForWrites S home.old filler.now.filler.chain filler.now.filler.pin writes → SaysUpTo writes reached.old.at reached.old.tomb frag.now → StandsForWrites S home.new filler.now.filler.chain filler.now.filler.pin writes }
-    ensures loses { KeyFits reached.old.at.prefix → IsFit frag.now → IsWritten frag.now → LosesWhereCrowded S 0 home.old home.new }
+    ensures known { OnOk result (Unlost (MayFill home.old filler.now.filler.chain filler.now.filler.pin) (losses home.old) (losses home.new) (IsNotEmptyRow frag.now → IsKnownOver (FillerKnows home.old filler.now.filler) first_position reached.old.at → IsKnownOver (FillerKnows home.new filler.now.filler) first_position (past reached.old.at frag.now))) }
+    ensures stands { (writes : List Mutation) → StandsForWrites S home.old filler.now.filler.chain filler.now.filler.pin writes → SaysUpToFragment writes reached.old.at reached.old.tomb frag.now → StandsForWrites S home.new filler.now.filler.chain filler.now.filler.pin writes }
+    ensures loses { KeyFits reached.old.at.prefix → IsFit frag.now → IsNotEmptyRow frag.now → LosesWhereCrowded S 0 home.old home.new }
     ensures at { OnOk result (reached.new.at ≡ past reached.old.at frag.now) }
     ensures tomb { OnOk result (reached.new.tomb ≡ tomb_after reached.old.tomb frag.now) }
 {
@@ -210,12 +210,12 @@ pub(crate) fn fill_all<const S: usize>(
     frags: &[Frag],
 ) -> Result<(), AllocError>
     requires ready { IsFillerReady S filler.now.filler home.old }
-    requires written { AllWritten frags.now }
+    requires written { NoEmptyRows frags.now }
     requires source { (writes : List Mutation) × StandsForWrites S home.old filler.now.filler.chain filler.now.filler.pin writes × SaysAll writes first_position None frags.now }
     ensures filled { IsFilledBy (of_its_filler S) filler.now home.old filler.now home.new }
     ensures known { OnOk result (Unlost (MayFill home.old filler.now.filler.chain filler.now.filler.pin) (losses home.old) (losses home.new) (IsKnownOver (FillerKnows home.new filler.now.filler) first_position end_position)) }
     ensures stands { (writes : List Mutation) → StandsForWrites S home.old filler.now.filler.chain filler.now.filler.pin writes → SaysAll writes first_position None frags.now → StandsForWrites S home.new filler.now.filler.chain filler.now.filler.pin writes }
-    ensures loses { AllFit frags.now → LosesWhereCrowded S 0 home.old home.new }
+    ensures loses { FragmentsFit frags.now → LosesWhereCrowded S 0 home.old home.new }
 {
     let mut reached = Reached {
         at: bare(alloc, Weight::Before),

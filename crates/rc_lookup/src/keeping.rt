@@ -1,6 +1,6 @@
 //! The rows that a reader gives become the most recent of the cache.
 ghost use Rattle.std.specs.Prelude.{◌≡◌, ◌∷◌, ℕ, [], List, None, Some, false, true};
-ghost use Rattle.rc_memory.specs.Changes.{member};
+ghost use Rattle.rc_memory.specs.Changes.{member_at};
 ghost use Rattle.rc_memory.specs.Memory.{HasChain, HasVersion, chain_at};
 ghost use Rattle.rc_position.specs.Position.{row_pos};
 ghost use Rattle.rc_schema.specs.SchemaValue.{SchemaValue};
@@ -21,7 +21,7 @@ use rc_version::entry_at_key;
 // Makes the entry of a version at a key the most recent object, if it is in the recency list.
 fn touch_entry<const S: usize>(chains: &mut Chains<S>, id: u64, number: u64, key: &Key)
     requires { HasVersion chains.old id number }
-    ensures { AreTouched (λ w. w ≡ member id number (Some (row_pos key.now))) chains.old chains.new }
+    ensures { AreTouched (λ w. w ≡ member_at id number (Some (row_pos key.now))) chains.old chains.new }
 {
     chains.known();
     chains.places_stand();

@@ -5,7 +5,7 @@ ghost use Rattle.rc_mutation.specs.declared.mutations.Mutation.{Mutation as Chan
 ghost use Rattle.rc_mutation.specs.Source.{SameSource};
 ghost use Rattle.rc_writes.specs.Allowed.{ChangeFits};
 ghost use Rattle.rc_core.specs.Version.{end_position};
-ghost use Rattle.rc_memory.specs.Changes.{member};
+ghost use Rattle.rc_memory.specs.Changes.{member_at};
 ghost use Rattle.rc_memory.specs.Memory.{Memory, chain_at};
 ghost use Rattle.rc_cached.specs.Filling.{MayFill};
 ghost use Rattle.rc_row_cache.specs.Found.{entry_number};
@@ -136,7 +136,7 @@ fn fill_entry<const S: usize>(
     ensures says { (schema : SchemaValue) (below : Below) (h : HasCacheSnapshot chains.old snap.chain snap.pin) (writes : Sequence Change) → All (ChangeFits schema) writes → StandsForWrites S chains.old snap.chain snap.pin writes → SameSource (read.now ∷ []) writes → SameSource (below snap.chain (phase_pinned h)) writes →
         CacheSays schema below chains.old → CacheSays schema below chains.new }
     ensures loses { (schema : SchemaValue) → IsTrue (is_schema schema) → ChangeFits schema read.now → LosesWhereCrowded S 0 chains.old chains.new }
-    ensures known { OnOk result (MayFill chains.old snap.chain snap.pin → NoneLost (losses chains.old) (losses chains.new) → KnowsStaticRow chains.old snap → Contains chains.old.recency (member snap.chain 0 (Some end_position)) → IsChainKnown chains.new snap.chain) }
+    ensures known { OnOk result (MayFill chains.old snap.chain snap.pin → NoneLost (losses chains.old) (losses chains.new) → KnowsStaticRow chains.old snap → Contains chains.old.recency (member_at snap.chain 0 (Some end_position)) → IsChainKnown chains.new snap.chain) }
 {
     a_chain_that_is_dropped_had_its_ends_alone();
     chains_of_the_cache_stay_in_use();

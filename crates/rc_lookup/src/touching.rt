@@ -1,8 +1,8 @@
 //! What is read becomes the most recent.
 ghost use Rattle.std.specs.Prelude.{◌+◌};
 ghost use Rattle.rc_memory.specs.Memory.{HasChain, HasVersion, IsMemberObject, Member, Memory};
-ghost use Rattle.rc_lookup.specs.Touched.{IsTouched};
-ghost use Rattle.rc_lookup.specs.calls.Recent.{IsEntryFrom, IsFrom, IsRaising, IsTurned};
+ghost use Rattle.rc_lookup.specs.Touched.{IsChainTouched};
+ghost use Rattle.rc_lookup.specs.calls.Recent.{IsEntryOfVersionOrNewer, IsOfVersionOrNewer, IsRaising, IsTurnedAlone};
 
 use lsa_region::{End, Ref};
 use lsa_tree::Tree;
@@ -12,7 +12,7 @@ use rc_version::static_row;
 // Makes an object the most recent one, if it is in the recency list.
 pub(crate) fn touch_listed<const S: usize>(chains: &mut Chains<S>, r: Ref)
     requires { (w : Member) × IsMemberObject chains.old r w }
-    ensures { (w : Member) → IsMemberObject chains.old r w → IsTurned w chains.old chains.new }
+    ensures { (w : Member) → IsMemberObject chains.old r w → IsTurnedAlone w chains.old chains.new }
 {
     if chains.is_listed(r) {
         chains.touch(r);
@@ -22,7 +22,7 @@ pub(crate) fn touch_listed<const S: usize>(chains: &mut Chains<S>, r: Ref)
 // Makes the static row of a version of a chain the most recent object.
 fn touch_static<const S: usize>(chains: &mut Chains<S>, id: u64, number: u64)
     requires { HasVersion chains.old id number }
-    ensures { (first : Memory) → IsRaising id (IsFrom number) first chains.old → IsRaising id (IsEntryFrom number) first chains.new }
+    ensures { (first : Memory) → IsRaising id (IsOfVersionOrNewer number) first chains.old → IsRaising id (IsEntryOfVersionOrNewer number) first chains.new }
 {
     chains.known();
     chains.places_stand();
@@ -35,7 +35,7 @@ fn touch_static<const S: usize>(chains: &mut Chains<S>, id: u64, number: u64)
 // Makes the entries of a version of a chain the most recent objects, one after another.
 fn touch_entries<const S: usize>(chains: &mut Chains<S>, id: u64, number: u64)
     requires { HasVersion chains.old id number }
-    ensures { (first : Memory) → IsRaising id (IsEntryFrom number) first chains.old → IsRaising id (IsFrom (number + 1)) first chains.new }
+    ensures { (first : Memory) → IsRaising id (IsEntryOfVersionOrNewer number) first chains.old → IsRaising id (IsOfVersionOrNewer (number + 1)) first chains.new }
 {
     chains.known();
     chains.places_stand();
@@ -60,7 +60,7 @@ fn touch_entries<const S: usize>(chains: &mut Chains<S>, id: u64, number: u64)
 /// Makes all objects of a chain that are in the recency list the most recent ones, in the order of their places: version by version the static row, and then the entries.
 pub(crate) fn touch_all<const S: usize>(chains: &mut Chains<S>, id: u64)
     requires { HasChain chains.old id }
-    ensures { IsTouched id chains.old chains.new }
+    ensures { IsChainTouched id chains.old chains.new }
 {
     chains.known();
     for number in 0..chains.versions(id) {

@@ -15,7 +15,7 @@ use Rattle.rc_lines.specs.declared.commands.Refusal.{Refusal}
 use Rattle.rc_lines.specs.declared.commands.Refusal.TheVariants.{NoReader, ReaderInUse, TooManyReaders, ReadFault, Damaged}
 use Rattle.rc_lines.specs.declared.commands.Reply.{Reply}
 use Rattle.rc_lines.specs.declared.commands.Reply.TheVariants as replies
-use Rattle.rc_machine.specs.State.{State, Reader, lines_of, rest_of, unstored, reader_of}
+use Rattle.rc_machine.specs.State.{State, Reader, lines_of, rest_of, unstored_writes, reader_of}
 use Rattle.rc_machine.specs.Steps.{Steps, AfterSteps, MaySay, IsSaid, IsResaid, Refuses, Opens, Gives, is_of, most_readers, reader_with, reader_past}
 use Rattle.rc_machine.specs.OneAnswer.{GivesFirst, GivesAlong}
 use Rattle.rc_machine.specs.laws.Changes.{Change, Reads, Writes, Seals, Begins, Stored, Goes, Ends, change_of}
@@ -152,7 +152,7 @@ not_refused why e = absurd (cc)
 
 module _ (m : State) (id : ℕ) (key : List ℕ) (slice : Slice) (steps : List (Command × Reply)) (opened new : State) (after : AfterSteps opened steps new) where
   abbrev Gave : Type 0
-  Gave = (said : List Mutation) × IsSaid m key said × GivesAlong id steps (answer (said ++ changes_to key (unstored m)) slice)
+  Gave = (said : List Mutation) × IsSaid m key said × GivesAlong id steps (answer (said ++ changes_to key (unstored_writes m)) slice)
 
   opens : reader_of id m ≡ None → Opens m id key slice replies.Fine opened → Gave
   opens free (inl s) =
@@ -172,5 +172,5 @@ module _ (m : State) (id : ℕ) (key : List ℕ) (slice : Slice) (steps : List (
 
 -- from its opening on a reader gives the lines of one answer
 pub one_answer : (m : State) (id : ℕ) (key : List ℕ) (slice : Slice) (opened : State) (steps : List (Command × Reply)) (new : State) → Steps m (OpenRead id key slice) replies.Fine opened → AfterSteps opened steps new
-    → (said : List Mutation) × IsSaid m key said × GivesAlong id steps (answer (said ++ changes_to key (unstored m)) slice)
+    → (said : List Mutation) × IsSaid m key said × GivesAlong id steps (answer (said ++ changes_to key (unstored_writes m)) slice)
 one_answer m id key slice opened steps new s a = tries m id key slice steps opened new a (reader_of id m) (nat_lt (length m.readers) most_readers) refl s

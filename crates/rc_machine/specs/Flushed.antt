@@ -65,6 +65,6 @@ accepted_by (Put w) Fine = w ∷ []
 accepted_by command reply = []
 
 -- the accepted writes of steps, in order
-abbrev pub accepted : List (Command × Reply) → List Write
-accepted [] = []
-accepted (step ∷ steps) = accepted_by step.0 step.1 ++ accepted steps
+abbrev pub writes_of_steps : List (Command × Reply) → List Write
+writes_of_steps [] = []
+writes_of_steps (step ∷ steps) = accepted_by step.0 step.1 ++ writes_of_steps steps

@@ -1,8 +1,8 @@
 -- The machine without a cache, over a folder of tables: its state.
---     Table, Reader, State    what it holds
---     lines_of, rest_of       the lines of a reader's answer, and those that it has not given yet
---     opened_state            as it is opened over a folder
---     unstored, reader_of     the writes that stand in no table; an open reader
+--     Table, Reader, State          what it holds
+--     lines_of, rest_of             the lines of a reader's answer, and those that it has not given yet
+--     opened_state                  as it is opened over a folder
+--     unstored_writes, reader_of    the writes that stand in no table; an open reader
 use Rattle.std.specs.Prelude.{ℕ, ◌-◌, ◌==◌, Bool, false, List, [], ◌++◌, drop, map as list_map, Option}
 use Rattle.std.specs.Map.{lookup}
 use Rattle.rc_outside.specs.Files.{Files}
@@ -65,8 +65,8 @@ opened_state segments files schema tables infos =
     record { schema = schema; segments = segments; files = files; tables = tables; infos = infos; log = []; stored = 0; sealed = 0; written = false; left = 0; readers = [] }
 
 -- the writes that stand in no table, or only in one that the cache does not have yet
-abbrev pub unstored : State → List Write
-unstored m = drop m.stored m.log
+abbrev pub unstored_writes : State → List Write
+unstored_writes m = drop m.stored m.log
 
 -- an open reader, where the id is open
 abbrev pub reader_of : ℕ → State → Option Reader

@@ -25,7 +25,7 @@ use Rattle.rc_lines.specs.declared.commands.Refusal.{Refusal}
 use Rattle.rc_lines.specs.declared.commands.Reply.{Reply}
 use Rattle.rc_lines.specs.declared.commands.Reply.TheVariants as replies
 use Rattle.rc_lines.specs.declared.commands.Refusal.TheVariants.{SchemaDiffers, NoReader, ReaderInUse, TooManyReaders, FlushInProgress, NothingToFlush, NoFlush, NoNumber, Full, ReadFault, WriteFault, Damaged}
-use Rattle.rc_machine.specs.State.{State, Reader, lines_of, rest_of, numbers, unstored, reader_of}
+use Rattle.rc_machine.specs.State.{State, Reader, lines_of, rest_of, numbers, unstored_writes, reader_of}
 use Rattle.rc_machine.specs.Room.{MayBeFull}
 
 -- at most so many readers are open at once
@@ -70,7 +70,7 @@ ReadFails m key reply new = Refuses m ReadFault reply new
 
 -- a reader as it is opened, to which the tables say this
 abbrev pub reader_with : State → List ℕ → Slice → List Mutation → Reader
-reader_with m key slice said = record { key = key; slice = slice; said = said; writes = changes_to key (unstored m); listed = listing key m.infos; settled = 0 }
+reader_with m key slice said = record { key = key; slice = slice; said = said; writes = changes_to key (unstored_writes m); listed = listing key m.infos; settled = 0 }
 
 -- a reader is opened: its answer is to what the tables say and then the writes that stand in none; or its partition could not be read
 abbrev pub Opens : State → ℕ → List ℕ → Slice → Reply → State → Type 0
@@ -93,7 +93,7 @@ sealing m = if m.stored == m.sealed then length m.log else m.sealed
 
 -- partitions are what a flush writes: the parts of the writes that are sealed or would be, and the text of a table
 abbrev pub IsFlushed : State → List Partition → Type 0
-IsFlushed m parts = IsParts parts (take (sealing m - m.stored) (unstored m)) × IsTable (text (whole_table m.schema parts)) m.schema parts
+IsFlushed m parts = IsParts parts (take (sealing m - m.stored) (unstored_writes m)) × IsTable (text (whole_table m.schema parts)) m.schema parts
 
 -- the state in which the sealed writes stand in one more table, with its file, and the cache does not have it yet
 abbrev pub with_table : State → List Partition → State

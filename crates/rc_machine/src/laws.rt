@@ -11,9 +11,9 @@ ghost use Rattle.rc_query.specs.Answer.{answer};
 ghost use Rattle.rc_tfile.specs.declared.info.TableInfo.{TableInfo};
 ghost use Rattle.rc_lines.specs.declared.commands.Command.{Command};
 ghost use Rattle.rc_lines.specs.declared.commands.Reply.{Reply};
-ghost use Rattle.rc_machine.specs.State.{State, Reader, Table, opened_state, reader_of, unstored};
+ghost use Rattle.rc_machine.specs.State.{State, Reader, Table, opened_state, reader_of, unstored_writes};
 ghost use Rattle.rc_machine.specs.Steps.{Steps, AfterSteps, IsSaid, is_of};
-ghost use Rattle.rc_machine.specs.Flushed.{Flush, HasFlushed, accepted};
+ghost use Rattle.rc_machine.specs.Flushed.{Flush, HasFlushed, writes_of_steps};
 ghost use Rattle.rc_machine.specs.OneAnswer.{GivesAlong};
 
 /// An open reader stays as it is in each step, and over any steps, that neither read from it nor close it: no write, no flush, no refusal and no
@@ -31,7 +31,7 @@ pub fn readers_are_fixed()
 pub fn a_reader_gives_one_answer()
     ensures { (m : State) (id : ℕ) (key : List ℕ) (slice : Slice) (opened : State) (steps : List (Command × Reply)) (new : State) →
         Steps m (Command.OpenRead id key slice) Reply.Fine opened → AfterSteps opened steps new →
-        (said : List Mutation) × IsSaid m key said × GivesAlong id steps (answer (said ++ changes_to key (unstored m)) slice) }
+        (said : List Mutation) × IsSaid m key said × GivesAlong id steps (answer (said ++ changes_to key (unstored_writes m)) slice) }
 {}
 
 /// A reader that was closed is not open.
@@ -44,5 +44,5 @@ pub fn closed_readers_are_gone()
 /// parts of its run, and its file is the table's text.
 pub fn tables_hold_what_was_flushed()
     ensures { (segments : ℕ) (files : Option Files) (schema : SchemaValue) (tables : List Table) (infos : List TableInfo) (steps : List (Command × Reply)) (m : State) →
-        AfterSteps (opened_state segments files schema tables infos) steps m → ((flushes : List Flush) × HasFlushed (opened_state segments files schema tables infos) m flushes) × (m.log ≡ accepted steps) }
+        AfterSteps (opened_state segments files schema tables infos) steps m → ((flushes : List Flush) × HasFlushed (opened_state segments files schema tables infos) m flushes) × (m.log ≡ writes_of_steps steps) }
 {}

@@ -24,8 +24,8 @@ use Rattle.rc_memory.specs.Recency.{HasObject, IsLastInner, IsUnderUpdate}
 use Rattle.rc_memory.specs.Room.{FitTogether}
 
 -- the place of the static row of a version of a chain, or of its entry at a position
-abbrev pub member : ℕ → ℕ → Option Pos → Member
-member id j at = record { chain = id; version = j; position = at }
+abbrev pub member_at : ℕ → ℕ → Option Pos → Member
+member_at id j at = record { chain = id; version = j; position = at }
 
 -- the objects of all chains stand where they stood, but those at these places
 pub record StandStill (these : Member → Type 0) (old new : Memory) : Type 0 where
@@ -75,15 +75,15 @@ FitsChanged S id j f m = IfSome (chain_at m id) (λ k. FitTogether S (on_version
 
 -- where the version of a number is the one under update, its last entry before the end is that still when something is done to it, or is listed
 abbrev pub KeepsLast : ℕ → ℕ → (Version → Version) → Memory → Type 0
-KeepsLast id j f m = IfSome (chain_at m id) (λ k. (v : Version) → IsVersionAt k.chain.versions j v → IsUnderUpdate k.chain j → (at : Option Pos) → IsLastInner v at → IsLastInner (f v) at ⊎ Contains m.recency (member id j at))
+KeepsLast id j f m = IfSome (chain_at m id) (λ k. (v : Version) → IsVersionAt k.chain.versions j v → IsUnderUpdate k.chain j → (at : Option Pos) → IsLastInner v at → IsLastInner (f v) at ⊎ Contains m.recency (member_at id j at))
 
 -- the last entry before the end of the version under update of a chain is listed, where the chain is under update
 abbrev pub LastIsListed : ℕ → Memory → Type 0
-LastIsListed id m = (k : KeptChain) (j : ℕ) (v : Version) (at : Option Pos) → chain_at m id ≡ Some k → IsUnderUpdate k.chain j → IsVersionAt k.chain.versions j v → IsLastInner v at → Contains m.recency (member id j at)
+LastIsListed id m = (k : KeptChain) (j : ℕ) (v : Version) (at : Option Pos) → chain_at m id ≡ Some k → IsUnderUpdate k.chain j → IsVersionAt k.chain.versions j v → IsLastInner v at → Contains m.recency (member_at id j at)
 
 -- nothing of a version of a chain is listed
 abbrev pub NothingListed : ℕ → ℕ → Memory → Type 0
-NothingListed id j m = (at : Option Pos) → Contains m.recency (member id j at) → ⊥
+NothingListed id j m = (at : Option Pos) → Contains m.recency (member_at id j at) → ⊥
 
 -- a version may be dropped: nobody pins it, and it is not the only one; nor is it under update, or the only one below that
 pub record CanDrop (c : Shown) (j : ℕ) : Type 0 where

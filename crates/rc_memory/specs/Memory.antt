@@ -12,11 +12,11 @@ use Rattle.rc_registry.specs.ChainKind.{ChainKind}
 use Rattle.lsa_region.specs.Region.{View}
 use Rattle.rc_partition.specs.Entries.{IsEntryAtPosition}
 use Rattle.rc_registry.specs.Chains.{Shown}
-use Rattle.rc_registry.specs.Steps.{free_number, on_version, pin_at, pinned, released, all_but, renumbered}
+use Rattle.rc_registry.specs.Steps.{free_number, on_version, pin_at, pins_with, pins_without, all_but, number_after_removal}
 use Rattle.rc_registry.specs.Version.{Version}
 use Rattle.rc_partition.specs.Versions.{IsStaticsOf}
 use Rattle.rc_partition.specs.Partitions.{PartitionEntry, StandingVersion, partition_as, partition_of}
-use Rattle.rc_registry.specs.Registry.{put, IsAfter}
+use Rattle.rc_registry.specs.Registry.{put_at_number, IsAfter}
 use Rattle.rc_memory.specs.declared.counts.Counts.{Counts}
 
 -- a chain of versions, and the cleaner's mark that it left the chain unmerged
@@ -97,7 +97,7 @@ pub record IsUntouched (old new : Memory) : Type 0 where
 
 -- something done to the chain of a number; all others are as they were
 abbrev pub on_chain : ℕ → (KeptChain → KeptChain) → List (Option KeptChain) → List (Option KeptChain)
-on_chain id f chains = put id (option_map f (slice_index_or chains id None)) chains
+on_chain id f chains = put_at_number id (option_map f (slice_index_or chains id None)) chains
 
 -- something done to a chain as it is shown
 abbrev pub on_shown : (Shown → Shown) → KeptChain → KeptChain
@@ -133,11 +133,11 @@ snapshot_number c = cond c.updating (length c.versions - 2) (length c.versions -
 
 -- the chain with one snapshot more, of the version of a number
 abbrev pub with_snapshot : ℕ → KeptChain → KeptChain
-with_snapshot version k = on_shown (λ c. shown_pinned (pinned version c.pins) c) k
+with_snapshot version k = on_shown (λ c. shown_pinned (pins_with version c.pins) c) k
 
 -- the chain with the snapshot of a number taken back
 abbrev pub without_snapshot : ℕ → KeptChain → KeptChain
-without_snapshot pin k = on_shown (λ c. shown_pinned (released pin c.pins) c) k
+without_snapshot pin k = on_shown (λ c. shown_pinned (pins_without pin c.pins) c) k
 
 -- the memory with other chains
 abbrev pub with_chains : List (Option KeptChain) → Memory → Memory
@@ -216,7 +216,7 @@ version_changed id j t region m = record {
   dropped = m.dropped;
   counts = m.counts;
   region = region;
-  standing = put id (option_map (partition_with j t) (slice_index_or m.standing id None)) m.standing;
+  standing = put_at_number id (option_map (partition_with j t) (slice_index_or m.standing id None)) m.standing;
 }
 
 -- a chain of no version: found by its key, not under update, pinned by nobody
@@ -224,12 +224,12 @@ abbrev pub empty_chain : ChainKind → KeptChain
 empty_chain kind = record { chain = record { kind = kind; versions = []; attached = true; updating = false; pins = [] }; passed = false }
 
 -- the memory with such a chain more, at a root slot
-abbrev pub opened : ℕ → Root → ChainKind → View → Memory → Memory
-opened id root kind region m = record { chains = put id (Some (empty_chain kind)) m.chains; recency = m.recency; dropped = m.dropped; counts = m.counts; region = region; standing = put id (Some (partition_of root [])) m.standing }
+abbrev pub with_new_chain : ℕ → Root → ChainKind → View → Memory → Memory
+with_new_chain id root kind region m = record { chains = put_at_number id (Some (empty_chain kind)) m.chains; recency = m.recency; dropped = m.dropped; counts = m.counts; region = region; standing = put_at_number id (Some (partition_of root [])) m.standing }
 
 -- the memory without the chain of a number, which is to be told
-abbrev pub closed : ℕ → View → Memory → Memory
-closed id region m = record { chains = put id None m.chains; recency = m.recency; dropped = m.dropped ++ (id ∷ []); counts = m.counts; region = region; standing = put id None m.standing }
+abbrev pub without_chain : ℕ → View → Memory → Memory
+without_chain id region m = record { chains = put_at_number id None m.chains; recency = m.recency; dropped = m.dropped ++ (id ∷ []); counts = m.counts; region = region; standing = put_at_number id None m.standing }
 
 -- ---- versions that come and go
 
@@ -243,11 +243,11 @@ partition_without j p = partition_of p.root (take j p.versions ++ drop (suc j) p
 
 -- the chain without the version of a number: the newer ones, and the pins of these, have numbers less by one
 abbrev pub shown_without : ℕ → Shown → Shown
-shown_without j c = record { kind = c.kind; versions = all_but j c.versions; attached = c.attached; updating = c.updating; pins = map (option_map (renumbered j)) c.pins }
+shown_without j c = record { kind = c.kind; versions = all_but j c.versions; attached = c.attached; updating = c.updating; pins = map (option_map (number_after_removal j)) c.pins }
 
 -- the place of an object once the version of a number of a chain is gone
 abbrev pub renumbered_member : ℕ → ℕ → Member → Member
-renumbered_member id j w = record { chain = w.chain; version = cond (nat_eq w.chain id) (renumbered j w.version) w.version; position = w.position }
+renumbered_member id j w = record { chain = w.chain; version = cond (nat_eq w.chain id) (number_after_removal j w.version) w.version; position = w.position }
 
 -- the memory with a version over those of a chain, as it stands in a region
 abbrev pub more_versions : ℕ → StandingVersion → View → Memory → Memory
@@ -257,7 +257,7 @@ more_versions id t region m = record {
   dropped = m.dropped;
   counts = m.counts;
   region = region;
-  standing = put id (option_map (partition_and t) (slice_index_or m.standing id None)) m.standing;
+  standing = put_at_number id (option_map (partition_and t) (slice_index_or m.standing id None)) m.standing;
 }
 
 -- the memory without the version of a number of a chain
@@ -268,12 +268,12 @@ fewer_versions id j region m = record {
   dropped = m.dropped;
   counts = m.counts;
   region = region;
-  standing = put id (option_map (partition_without j) (slice_index_or m.standing id None)) m.standing;
+  standing = put_at_number id (option_map (partition_without j) (slice_index_or m.standing id None)) m.standing;
 }
 
 -- the memory with a chain more, of one version as it stands in a region, at a root slot
 abbrev pub chain_made : ℕ → Root → ChainKind → StandingVersion → View → Memory → Memory
-chain_made id root kind t region m = more_versions id t region (opened id root kind region m)
+chain_made id root kind t region m = more_versions id t region (with_new_chain id root kind region m)
 
 -- ---- updates
 

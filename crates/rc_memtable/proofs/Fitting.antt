@@ -24,10 +24,10 @@ use Rattle.rc_core.specs.declared.entries.Flag.{Flag}
 use Rattle.rc_core.specs.declared.entries.Flag.TheVariants.{Inherit}
 use Rattle.rc_core.specs.declared.entries.Mark.{Mark}
 use Rattle.rc_core.specs.AtPlace.{EachEntry}
-use Rattle.rc_core.specs.Change.{changed, dummy, joined_onto, raised_mark, split, split_by, with_row}
+use Rattle.rc_core.specs.Change.{dummy, entry_changed, gap_split, joined_onto, raised_mark, split_by, with_row}
 use Rattle.rc_core.specs.Continuity.{EachOf}
 use Rattle.rc_core.specs.Steps.{join_flagged_statics, join_pt, on_version, range_joined, row_joined, version_of}
-use Rattle.rc_core.specs.Version.{Finding, On, Version, entry_answers, seen}
+use Rattle.rc_core.specs.Version.{Finding, On, Version, entry_answers, finding_in}
 use Rattle.rc_memtable.specs.Fits.{IsEntryUnder, IsVersionUnder}
 
 -- ---- entries
@@ -42,9 +42,9 @@ module _ (P : Entry → Type 0) (x : Pos) (made : (m : Mark) → P (dummy x m)) 
   split-by-each Equal e es rest h k = h
   split-by-each Greater e es rest h k = (h.0, k)
 
-  split-each : (es : List Entry) → EachEntry P es → EachEntry P (split x es)
+  split-each : (es : List Entry) → EachEntry P es → EachEntry P (gap_split x es)
   split-each [] h = tt
-  split-each (e ∷ es) h = split-by-each (pos_cmp x e.position) e es (split x es) h (split-each es h.1)
+  split-each (e ∷ es) h = split-by-each (pos_cmp x e.position) e es (gap_split x es) h (split-each es h.1)
 
 is-equal : (r : Ordering) → is_eq r ≡ true → r ≡ Equal
 is-equal Less e = absurd (cc)
@@ -107,17 +107,17 @@ module _ (schema : SchemaValue) where
           | true ↦ λ q. joined-entry key row h up e (pos_cmp_same (row_pos key) e.position (is-equal (pos_cmp (row_pos key) e.position) q)) k
           | false ↦ λ q. k
         ] refl)
-        (split (row_pos key) v.entries) (split-each (IsEntryUnder schema) (row_pos key) (dummy-of (row_pos key) (looser key h.0)) v.entries is.entries);
+        (gap_split (row_pos key) v.entries) (split-each (IsEntryUnder schema) (row_pos key) (dummy-of (row_pos key) (looser key h.0)) v.entries is.entries);
   }
 
-  changed-entry : (from to : Pos) (tomb : Tomb) (e : Entry) → IsEntryUnder schema e → IsEntryUnder schema (changed (raised_mark (Some tomb)) from to e)
+  changed-entry : (from to : Pos) (tomb : Tomb) (e : Entry) → IsEntryUnder schema e → IsEntryUnder schema (entry_changed (raised_mark (Some tomb)) from to e)
   changed-entry from to tomb e is = record { position = is.position; row = is.row }
 
   pub range-fits : (from to : Pos) (tomb : Tomb) → IsRangeBound schema from → IsRangeBound schema to → (v : Version) → IsVersionUnder schema v → IsVersionUnder schema (range_joined from to tomb v)
   range-fits from to tomb f t v is = record {
     statics = is.statics;
-    entries = each-map (IsEntryUnder schema) (changed (raised_mark (Some tomb)) from to) (changed-entry from to tomb) (split to (split from v.entries))
-        (split-each (IsEntryUnder schema) to (dummy-of to t.1) (split from v.entries) (split-each (IsEntryUnder schema) from (dummy-of from f.1) v.entries is.entries));
+    entries = each-map (IsEntryUnder schema) (entry_changed (raised_mark (Some tomb)) from to) (changed-entry from to tomb) (gap_split to (gap_split from v.entries))
+        (split-each (IsEntryUnder schema) to (dummy-of to t.1) (gap_split from v.entries) (split-each (IsEntryUnder schema) from (dummy-of from f.1) v.entries is.entries));
   }
 
   pub statics-fit : (row : Row) (flag : Flag) → IsStaticOf schema row → IsRow row → (v : Version) → IsVersionUnder schema v → IsVersionUnder schema (join_flagged_statics row flag v)
@@ -143,11 +143,11 @@ module _ (schema : SchemaValue) where
   answered-row key Equal e rest at is k = row-at key e.position e.row (sym (at refl)) is.row
   answered-row key Greater e rest at is k = k
 
-  pub seen-row : (key : List Comp) (es : List Entry) → EachEntry (IsEntryUnder schema) es → IfSome (seen (On (row_pos key)) es).row (λ q. IsRowOf schema key q × IsRow q)
+  pub seen-row : (key : List Comp) (es : List Entry) → EachEntry (IsEntryUnder schema) es → IfSome (finding_in (On (row_pos key)) es).row (λ q. IsRowOf schema key q × IsRow q)
   seen-row key [] h = tt
-  seen-row key (e ∷ es) h = answered-row key (pos_cmp (row_pos key) e.position) e (seen (On (row_pos key)) es) (pos_cmp_same (row_pos key) e.position) h.0 (seen-row key es h.1)
+  seen-row key (e ∷ es) h = answered-row key (pos_cmp (row_pos key) e.position) e (finding_in (On (row_pos key)) es) (pos_cmp_same (row_pos key) e.position) h.0 (seen-row key es h.1)
 
   -- the row that a version has there then
   pub joined-there : (key : List Comp) (row : Row) → IsRowOf schema key row → IsRow row → (v : Version) → IsVersionUnder schema v →
-      IsRowOf schema key (joined_onto (seen (On (row_pos key)) v.entries).row row) × IsRow (joined_onto (seen (On (row_pos key)) v.entries).row row)
-  joined-there key row h up v is = joined-row key (seen (On (row_pos key)) v.entries).row row (seen-row key v.entries is.entries) h up
+      IsRowOf schema key (joined_onto (finding_in (On (row_pos key)) v.entries).row row) × IsRow (joined_onto (finding_in (On (row_pos key)) v.entries).row row)
+  joined-there key row h up v is = joined-row key (finding_in (On (row_pos key)) v.entries).row row (seen-row key v.entries is.entries) h up

@@ -7,15 +7,15 @@ use Rattle.rc_position.specs.declared.positions.Pos.{Pos}
 use Rattle.rc_core.specs.declared.entries.ChainKind.TheVariants.{Cache, Memtable}
 use Rattle.rc_core.specs.AtPlace.{HasEntryAt}
 use Rattle.rc_core.specs.Free.{free_entry, free_statics}
-use Rattle.rc_core.specs.Steps.{all_but, on_version, renumbered}
+use Rattle.rc_core.specs.Steps.{all_but, number_after_removal, on_version}
 use Rattle.rc_core.specs.Version.{IsVersion, Version, end_position}
 use Rattle.rc_units.specs.Chained.{objects_of}
 use Rattle.rc_partition.specs.laws.Lists.{elem-first, elem-here, elem-later}
-use Rattle.rc_registry.specs.Registry.{AreFree, put}
+use Rattle.rc_registry.specs.Registry.{AreFree, put_at_number}
 use Rattle.rc_memory.specs.Kept.{IsSoundChain}
 use Rattle.rc_memory.specs.Memory.{KeptChain, Member, Memory, IsVersionAt, chain_at, on_chain, on_shown, on_version_of, renumbered_member, shown_without}
 use Rattle.rc_memory.specs.Recency.{IsRecency, MayBeListed}
-use Rattle.rc_memory.specs.Changes.{IsUnmoved, IsWithout, OfVersion, member}
+use Rattle.rc_memory.specs.Changes.{IsUnmoved, IsWithout, OfVersion, member_at}
 use Rattle.rc_memory.specs.laws.Dropped.{renumbered-other}
 use Rattle.rc_memory.specs.laws.Places.{same_some}
 use Rattle.rc_memory.specs.laws.Put.{put-at, put-same}
@@ -28,7 +28,7 @@ use Rattle.rc_memtable.proofs.Steps.{chain-now}
 
 -- ---- lists
 
-pub put-put : {X : Type 0} (xs : List (Option X)) (n : ℕ) (a b : Option X) → put n a (put n b xs) ≡ put n a xs
+pub put-put : {X : Type 0} (xs : List (Option X)) (n : ℕ) (a b : Option X) → put_at_number n a (put_at_number n b xs) ≡ put_at_number n a xs
 put-put [] zero a b = refl
 put-put [] (suc n) a b = ap (λ l. None ∷ l) (put-put [] n a b)
 put-put (x ∷ xs) zero a b = refl
@@ -38,7 +38,7 @@ mapped-same : (g : Member → Member) (ws : List Member) → ((w : Member) → C
 mapped-same g [] same = refl
 mapped-same g (w ∷ ws) same = let one = same w (elem-first w ws) in let rest = mapped-same g ws (λ x on. same x (elem-later w x ws on)) in λ i. one i ∷ rest i
 
-free-renumbered : (ps : List (Option ℕ)) → AreFree ps → AreFree (map (option_map (renumbered 0)) ps)
+free-renumbered : (ps : List (Option ℕ)) → AreFree ps → AreFree (map (option_map (number_after_removal 0)) ps)
 free-renumbered [] free j on = absurd on
 free-renumbered (None ∷ ps) free j (inl e) = cc e
 free-renumbered (Some p ∷ ps) free j (inl e) = free p (inl refl)
@@ -77,14 +77,14 @@ pub record IsLeaving (those : List (Option KeptChain)) (told : List ℕ) (old ne
 
 -- a chain is gone, before it is said how much is live
 abbrev pub HasGone : ℕ → Memory → Memory → Type 0
-HasGone id old new = IsLeaving (put id None old.chains) (old.dropped ++ id ∷ []) old new
+HasGone id old new = IsLeaving (put_at_number id None old.chains) (old.dropped ++ id ∷ []) old new
 
 -- the chain is there with fewer objects, or it is gone
 pub record IsThere (id : ℕ) (old now : Memory) : Type 0 where
   pub chain : KeptChain
   pub there : chain_at now id ≡ Some chain
   pub left : IsLeft chain
-  pub others : IsLeaving (put id (Some chain) old.chains) old.dropped old now
+  pub others : IsLeaving (put_at_number id (Some chain) old.chains) old.dropped old now
 
 abbrev pub IsFreeing : ℕ → Memory → Memory → Type 0
 IsFreeing id old now = IsThere id old now ⊎ HasGone id old now
@@ -144,7 +144,7 @@ module _ (id : ℕ) (old now : Memory) (t : IsThere id old now) (rule : IsRecenc
       there = chain-now now new id f t.chain chains t.there;
       left = left;
       others = record {
-        chains = chains ∙ ap (λ o. put id (option_map f o) now.chains) t.there ∙ ap (put id (Some (f t.chain))) t.others.chains ∙ put-put old.chains id (Some (f t.chain)) (Some t.chain);
+        chains = chains ∙ ap (λ o. put_at_number id (option_map f o) now.chains) t.there ∙ ap (put_at_number id (Some (f t.chain))) t.others.chains ∙ put-put old.chains id (Some (f t.chain)) (Some t.chain);
         dropped = dropped ∙ t.others.dropped;
         recency = list ∙ t.others.recency;
         counts = counts ∙ t.others.counts;
@@ -154,21 +154,21 @@ module _ (id : ℕ) (old now : Memory) (t : IsThere id old now) (rule : IsRecenc
     }
 
     entry-then : IsEntryFreed id now new → IsThere id old new
-    entry-then e = let c = e.changed t.chain t.there in then-there (on_shown (on_version_of 0 (free_entry t.chain.chain.kind e.at))) t.left c.chains c.dropped c.counts (list-stays (member id 0 (Some e.at)) new.recency refl e.recency) c.region
+    entry-then e = let c = e.changed t.chain t.there in then-there (on_shown (on_version_of 0 (free_entry t.chain.chain.kind e.at))) t.left c.chains c.dropped c.counts (list-stays (member_at id 0 (Some e.at)) new.recency refl e.recency) c.region
 
     static-then : IsStaticFreed id now new → IsThere id old new
-    static-then e = let c = e.changed t.chain t.there in then-there (on_shown (on_version_of 0 (free_statics t.chain.chain.kind))) t.left c.chains c.dropped c.counts (list-stays (member id 0 None) new.recency refl e.recency) c.region
+    static-then e = let c = e.changed t.chain t.there in then-there (on_shown (on_version_of 0 (free_statics t.chain.chain.kind))) t.left c.chains c.dropped c.counts (list-stays (member_at id 0 None) new.recency refl e.recency) c.region
 
     version-then : IsVersionDropped id 0 now new → IsThere id old new
     version-then d = then-there (on_shown (shown_without 0)) (t.left.0, t.left.1, free-renumbered t.chain.chain.pins t.left.2) d.chains d.dropped d.counts
-        (d.recency.2 ∙ ap (map (renumbered_member id 0)) (list-stays (member id 0 (Some end_position)) d.recency.0 refl d.recency.1)
+        (d.recency.2 ∙ ap (map (renumbered_member id 0)) (list-stays (member_at id 0 (Some end_position)) d.recency.0 refl d.recency.1)
         ∙ mapped-same (renumbered_member id 0) now.recency (λ w on. renumbered-other id 0 w (λ at. unlisted w at on))) d.region
 
     last-then : IsLastDropped id now new → HasGone id old new
     last-then d = record {
-      chains = d.dropped.chains ∙ ap (put id None) t.others.chains ∙ put-put old.chains id None (Some t.chain);
+      chains = d.dropped.chains ∙ ap (put_at_number id None) t.others.chains ∙ put-put old.chains id None (Some t.chain);
       dropped = d.dropped.dropped ∙ ap (λ ns. ns ++ id ∷ []) t.others.dropped;
-      recency = d.dropped.recency ∙ list-stays (member id 0 (Some end_position)) d.list refl d.recency ∙ t.others.recency;
+      recency = d.dropped.recency ∙ list-stays (member_at id 0 (Some end_position)) d.list refl d.recency ∙ t.others.recency;
       counts = d.dropped.counts ∙ t.others.counts;
       budget = d.dropped.region.budget ∙ t.others.budget;
       moved = d.dropped.region.moved ∙ t.others.moved;

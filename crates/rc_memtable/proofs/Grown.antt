@@ -28,7 +28,7 @@ use Rattle.rc_core.specs.declared.entries.Flag.{Flag}
 use Rattle.rc_core.specs.declared.entries.Flag.TheVariants.{Inherit}
 use Rattle.rc_core.specs.declared.entries.Mark.{Mark}
 use Rattle.rc_core.specs.AtPlace.{EachEntry}
-use Rattle.rc_core.specs.Change.{at_entry, changed, dummy, join_range, join_row_at, joined_onto, raised_mark, split, split_by, with_row}
+use Rattle.rc_core.specs.Change.{at_entry, dummy, entry_changed, gap_split, join_range, join_row_at, joined_onto, raised_mark, split_by, with_row}
 use Rattle.rc_core.specs.Continuity.{EachOf, joined_options}
 use Rattle.rc_core.specs.StandsFor.{written_pt, written_range, written_row, written_statics}
 use Rattle.rc_core.specs.Steps.{join_flagged_statics, join_pt, on_version, range_joined, row_joined, version_of}
@@ -37,7 +37,7 @@ use Rattle.rc_core.specs.laws.Placed.{each-wider}
 use Rattle.rc_core.specs.laws.Spots.{ascend-tail}
 use Rattle.rc_core.specs.laws.Surgery.{back-above}
 use Rattle.rc_version.specs.Versions.{bytes_at, entries_bytes, entry_bytes, statics_bytes, version_bytes}
-use Rattle.rc_registry.specs.Registry.{put}
+use Rattle.rc_registry.specs.Registry.{put_at_number}
 use Rattle.rc_memory.specs.Kept.{present}
 use Rattle.rc_memory.specs.Memory.{KeptChain, Memory, chain_at, on_chain, on_shown, on_version_of}
 use Rattle.rc_memory.specs.Room.{chain_bytes}
@@ -82,28 +82,28 @@ module _ (x : Pos) (row : Row) (up : IsRow row) where
 
   row-entries : (es : List Entry) → Ascend es → EachEntry (λ e. IfSome e.row IsRow) es → IsWithin es (join_row_at x row es)
   row-entries [] a h = omega arith
-  row-entries (e ∷ es) a h = elim (pos_cmp x e.position) as (λ r. pos_cmp x e.position ≡ r → IsWithin (e ∷ es) (at_entry x (with_row row) (split_by r x e es (split x es)))) [
+  row-entries (e ∷ es) a h = elim (pos_cmp x e.position) as (λ r. pos_cmp x e.position ≡ r → IsWithin (e ∷ es) (at_entry x (with_row row) (split_by r x e es (gap_split x es)))) [
     | Less ↦ λ l. subst (IsWithin (e ∷ es)) (sym (row-made e.gap e es l a)) (omega (arith, row-alone x row))
     | Equal ↦ λ t. subst (IsWithin (e ∷ es)) (sym (row-there e es t a)) (omega (arith, row-onto e.position e.row row h.0 up))
-    | Greater ↦ λ g. subst (IsWithin (e ∷ es)) (sym (row-later e (split x es) g)) (omega (arith, row-entries es (ascend-tail e es a) h.1))
+    | Greater ↦ λ g. subst (IsWithin (e ∷ es)) (sym (row-later e (gap_split x es) g)) (omega (arith, row-entries es (ascend-tail e es a) h.1))
   ] refl
 
 -- ---- a range tombstone joined
 
-split-entries : (x : Pos) (es : List Entry) → entries_bytes (split x es) ≤ entries_bytes es + entry_weight x
+split-entries : (x : Pos) (es : List Entry) → entries_bytes (gap_split x es) ≤ entries_bytes es + entry_weight x
 split-entries x [] = omega arith
-split-entries x (e ∷ es) = elim (pos_cmp x e.position) as (λ r. entries_bytes (split_by r x e es (split x es)) ≤ entries_bytes (e ∷ es) + entry_weight x) [
+split-entries x (e ∷ es) = elim (pos_cmp x e.position) as (λ r. entries_bytes (split_by r x e es (gap_split x es)) ≤ entries_bytes (e ∷ es) + entry_weight x) [
   | Less ↦ omega arith
   | Equal ↦ omega arith
   | Greater ↦ omega (arith, split-entries x es)
 ]
 
-changed-entries : (f : Mark → Mark) (from to : Pos) (es : List Entry) → entries_bytes (map (changed f from to) es) ≡ entries_bytes es
+changed-entries : (f : Mark → Mark) (from to : Pos) (es : List Entry) → entries_bytes (map (entry_changed f from to) es) ≡ entries_bytes es
 changed-entries f from to [] = refl
 changed-entries f from to (e ∷ es) = ap (λ n. entry_bytes e + n) (changed-entries f from to es)
 
 range-entries : (from to : Pos) (tomb : Tomb) (es : List Entry) → entries_bytes (join_range from to tomb es) ≤ entries_bytes es + (entry_weight from + entry_weight to)
-range-entries from to tomb es = omega (arith, changed-entries (raised_mark (Some tomb)) from to (split to (split from es)), split-entries to (split from es), split-entries from es)
+range-entries from to tomb es = omega (arith, changed-entries (raised_mark (Some tomb)) from to (gap_split to (gap_split from es)), split-entries to (gap_split from es), split-entries from es)
 
 -- ---- a static row joined
 
@@ -146,11 +146,11 @@ present-bytes None cs = omega arith
 present-bytes (Some k) cs = sum_by-cons chain_bytes k (present cs)
 
 -- of a chain that becomes another one, or comes to be
-put-bytes : (id : ℕ) (c : Option KeptChain) (cs : List (Option KeptChain)) → sum_by chain_bytes (present (put id c cs)) + bytes_of (slice_index_or cs id None) ≡ sum_by chain_bytes (present cs) + bytes_of c
+put-bytes : (id : ℕ) (c : Option KeptChain) (cs : List (Option KeptChain)) → sum_by chain_bytes (present (put_at_number id c cs)) + bytes_of (slice_index_or cs id None) ≡ sum_by chain_bytes (present cs) + bytes_of c
 put-bytes zero c [] = omega (arith, present-bytes c [])
 put-bytes zero c (d ∷ cs) = omega (arith, present-bytes c cs, present-bytes d cs)
-put-bytes (suc id) c [] = omega (arith, present-bytes None (put id c []), put-bytes id c [])
-put-bytes (suc id) c (d ∷ cs) = omega (arith, present-bytes d (put id c cs), present-bytes d cs, put-bytes id c cs)
+put-bytes (suc id) c [] = omega (arith, present-bytes None (put_at_number id c []), put-bytes id c [])
+put-bytes (suc id) c (d ∷ cs) = omega (arith, present-bytes d (put_at_number id c cs), present-bytes d cs, put-bytes id c cs)
 
 -- what is done to a chain, and by how many bytes it takes more then
 pub chain-more : (m n : Memory) (id : ℕ) (g : KeptChain → KeptChain) (more : ℕ) (k : KeptChain) → n.chains ≡ on_chain id g m.chains → chain_at m id ≡ Some k → chain_bytes (g k) ≤ chain_bytes k + more → chains_bytes n ≤ chains_bytes m + more
@@ -168,18 +168,18 @@ version-more m n id j f more k now there each = chain-more m n id (on_shown (on_
 pub over-more : (m n : Memory) (id : ℕ) (k : KeptChain) → n.chains ≡ on_chain id (on_shown (with_version_over 0)) m.chains → chain_at m id ≡ Some k → chains_bytes n ≤ chains_bytes m + 152
 over-more m n id k now there = chain-more m n id (on_shown (with_version_over 0)) 152 k now there (over-bytes k)
 
-pub made-more : (m n : Memory) (id : ℕ) → chain_at m id ≡ None → n.chains ≡ put id (Some (chain_of_new Memtable None 0)) m.chains → chains_bytes n ≤ chains_bytes m + 152
+pub made-more : (m n : Memory) (id : ℕ) → chain_at m id ≡ None → n.chains ≡ put_at_number id (Some (chain_of_new Memtable None 0)) m.chains → chains_bytes n ≤ chains_bytes m + 152
 made-more m n id vacant now =
     let total = put-bytes id (Some (chain_of_new Memtable None 0)) m.chains in
-    let after : chains_bytes n ≡ sum_by chain_bytes (present (put id (Some (chain_of_new Memtable None 0)) m.chains)) = ap (λ (cs : List (Option KeptChain)). sum_by chain_bytes (present cs)) now in
+    let after : chains_bytes n ≡ sum_by chain_bytes (present (put_at_number id (Some (chain_of_new Memtable None 0)) m.chains)) = ap (λ (cs : List (Option KeptChain)). sum_by chain_bytes (present cs)) now in
     let old : bytes_of (chain_at m id) ≡ 0 = ap bytes_of vacant in
     omega (arith, total, after, old)
 
 -- a chain that is gone
-pub gone-less : (m n : Memory) (id : ℕ) → n.chains ≡ put id None m.chains → chains_bytes n ≤ chains_bytes m
+pub gone-less : (m n : Memory) (id : ℕ) → n.chains ≡ put_at_number id None m.chains → chains_bytes n ≤ chains_bytes m
 gone-less m n id now =
     let total = put-bytes id None m.chains in
-    let after : chains_bytes n ≡ sum_by chain_bytes (present (put id None m.chains)) = ap (λ (cs : List (Option KeptChain)). sum_by chain_bytes (present cs)) now in
+    let after : chains_bytes n ≡ sum_by chain_bytes (present (put_at_number id None m.chains)) = ap (λ (cs : List (Option KeptChain)). sum_by chain_bytes (present cs)) now in
     omega (arith, total, after)
 
 -- ---- what a write of one thing may take

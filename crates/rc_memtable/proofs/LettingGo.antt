@@ -7,7 +7,7 @@ use Rattle.lsa_region.specs.Region.{live_bytes}
 use Rattle.rc_position.specs.Position.{bytes_cmp}
 use Rattle.rc_core.specs.declared.entries.ChainKind.TheVariants.{Memtable}
 use Rattle.rc_partition.specs.laws.Lists.{elem-first, elem-later, once-head, once-tail}
-use Rattle.rc_registry.specs.Registry.{AreFree, put}
+use Rattle.rc_registry.specs.Registry.{AreFree, put_at_number}
 use Rattle.rc_memory.specs.Kept.{IsSoundChain}
 use Rattle.rc_memory.specs.Memory.{HasChain, KeptChain, Member, Memory, chain_at, on_chain, on_shown, shown_detached, with_chains, without_snapshot}
 use Rattle.rc_memory.specs.laws.Places.{no_some, same_some}
@@ -62,7 +62,7 @@ module _ (id : ℕ) (old mid new : Memory) (memtable : IsSomeAnd (chain_at old i
     | inl gone ↦ inl (
       subst (λ (q : KeptChain). AreFree q.chain.pins) same gone.0,
       record {
-        chains = gone.1.chains ∙ ap (put id None) mid-left.chains ∙ put-put old.chains id None (option_map (on_shown shown_detached) (chain_at old id));
+        chains = gone.1.chains ∙ ap (put_at_number id None) mid-left.chains ∙ put-put old.chains id None (option_map (on_shown shown_detached) (chain_at old id));
         dropped = gone.1.dropped ∙ ap (λ ns. ns ++ id ∷ []) mid-left.dropped;
         recency = gone.1.recency ∙ mid-left.recency;
         counts = gone.1.counts ∙ mid-left.counts;

@@ -23,11 +23,11 @@ use Rattle.rc_core.specs.declared.entries.Flag.TheVariants.{Inherit}
 use Rattle.rc_core.specs.Change.{joined_onto}
 use Rattle.rc_core.specs.StandsFor.{written_pt, written_range, written_row, written_statics}
 use Rattle.rc_core.specs.Steps.{join_flagged_statics, join_pt, range_joined, row_joined}
-use Rattle.rc_core.specs.Version.{IsVersion, On, Version, seen}
+use Rattle.rc_core.specs.Version.{IsVersion, On, Version, finding_in}
 use Rattle.rc_version.specs.Versions.{bytes_at, joined_bytes, version_bytes}
 use Rattle.rc_memory.specs.Kept.{IsSoundChain}
 use Rattle.rc_memory.specs.Memory.{HasVersion, Member, Memory, chain_at}
-use Rattle.rc_memory.specs.Changes.{AtAlone, FitsChanged, IsRenewed, IsRenewedWhereNone, IsVersionChanged, KeepsLast, LastIsListed, Nowhere, OfVersion, member}
+use Rattle.rc_memory.specs.Changes.{AtAlone, FitsChanged, IsRenewed, IsRenewedWhereNone, IsVersionChanged, KeepsLast, LastIsListed, Nowhere, OfVersion, member_at}
 use Rattle.rc_chain.specs.laws.PlaceBeside.{memtable-settled}
 use Rattle.rc_memtable.specs.Fits.{IsEntryUnder, IsVersionUnder}
 use Rattle.rc_memtable.specs.calls.Steps.{IsChangeWritten}
@@ -93,16 +93,16 @@ module _ (S : ℕ) (schema : SchemaValue) (m : Memory) (id number bytes : ℕ) (
 
     pub row-room : largest_entry schema ≤ bytes → OfVersion m id number (λ k v. joined_bytes (row_pos key) row v ≤ spare_of S m.region.usages)
     row-room enough = of-fitting m id r.kept.0 r.kept.2 sound versions number r.kept.3.0 schema (λ v. joined_bytes (row_pos key) row v ≤ spare_of S m.region.usages) r.kept.4.fits
-        (λ v fits. let j = joined-there schema key row h up v fits in let s = entry-small schema r.limits key (joined_onto (seen (On (row_pos key)) v.entries).row row) j.0 j.1 in let spare = r.spare in omega (arith, s, spare, enough))
+        (λ v fits. let j = joined-there schema key row h up v fits in let s = entry-small schema r.limits key (joined_onto (finding_in (On (row_pos key)) v.entries).row row) j.0 j.1 in let spare = r.spare in omega (arith, s, spare, enough))
 
     pub row-fitting : FitsChanged S id number (row_joined (row_pos key) row) m
     row-fitting = fits-by (row_joined (row_pos key) row) (row-fits schema key row h up)
 
-  pub row-there : (key : List Comp) (row : Row) (n : Memory) → IsVersionChanged id number (row_joined (row_pos key) row) (AtAlone (member id number (Some (row_pos key)))) m n →
-      OfVersion m id number (λ k v. IsRenewed k.chain.kind (member id number (Some (row_pos key))) m.recency n.recency) →
+  pub row-there : (key : List Comp) (row : Row) (n : Memory) → IsVersionChanged id number (row_joined (row_pos key) row) (AtAlone (member_at id number (Some (row_pos key)))) m n →
+      OfVersion m id number (λ k v. IsRenewed k.chain.kind (member_at id number (Some (row_pos key))) m.recency n.recency) →
       (other : SchemaValue) → IsRowOf other key row → IsRow row → IsChangeWritten other id (written_row key row) 512 m n
-  row-there key row n c list other h up = written-there m id r.kept.0 r.kept.2 sound versions number r.kept.3.0 r.kept.3.1 other (written_row key row) (row_joined (row_pos key) row) (AtAlone (member id number (Some (row_pos key)))) n
-      (λ w at. ap (λ (x : Member). x.chain) at) c (list-kept m id r.kept.0 r.kept.2 sound versions number r.kept.3.0 r.kept.4.kind (member id number (Some (row_pos key))) n list)
+  row-there key row n c list other h up = written-there m id r.kept.0 r.kept.2 sound versions number r.kept.3.0 r.kept.3.1 other (written_row key row) (row_joined (row_pos key) row) (AtAlone (member_at id number (Some (row_pos key)))) n
+      (λ w at. ap (λ (x : Member). x.chain) at) c (list-kept m id r.kept.0 r.kept.2 sound versions number r.kept.3.0 r.kept.4.kind (member_at id number (Some (row_pos key))) n list)
       (λ changes keeps. row-kept other r.kept.0.chain number r.kept.3.0 (its-form m id r.kept.0 r.kept.2 sound versions) changes keeps key row h up)
       (entry_weight (row_pos key) + length (row_code row)) (weight-row key row)
       (each-grows (row_joined (row_pos key) row) (entry_weight (row_pos key) + length (row_code row)) (λ v is under. row-bytes (row_pos key) row v up is (rows-under schema v.entries under.entries)))
@@ -120,11 +120,11 @@ module _ (S : ℕ) (schema : SchemaValue) (m : Memory) (id number bytes : ℕ) (
     pub static-fitting : FitsChanged S id number (join_flagged_statics row Inherit) m
     static-fitting = fits-by (join_flagged_statics row Inherit) (statics-fit schema row Inherit h up)
 
-  pub static-there : (row : Row) (n : Memory) → IsVersionChanged id number (join_flagged_statics row Inherit) (AtAlone (member id number None)) m n →
-      OfVersion m id number (λ k v. IsRenewed k.chain.kind (member id number None) m.recency n.recency) →
+  pub static-there : (row : Row) (n : Memory) → IsVersionChanged id number (join_flagged_statics row Inherit) (AtAlone (member_at id number None)) m n →
+      OfVersion m id number (λ k v. IsRenewed k.chain.kind (member_at id number None) m.recency n.recency) →
       (other : SchemaValue) → IsStaticOf other row → IsRow row → is_written row ≡ true → IsChangeWritten other id (written_statics row) 512 m n
-  static-there row n c list other h up some = written-there m id r.kept.0 r.kept.2 sound versions number r.kept.3.0 r.kept.3.1 other (written_statics row) (join_flagged_statics row Inherit) (AtAlone (member id number None)) n
-      (λ w at. ap (λ (x : Member). x.chain) at) c (list-kept m id r.kept.0 r.kept.2 sound versions number r.kept.3.0 r.kept.4.kind (member id number None) n list)
+  static-there row n c list other h up some = written-there m id r.kept.0 r.kept.2 sound versions number r.kept.3.0 r.kept.3.1 other (written_statics row) (join_flagged_statics row Inherit) (AtAlone (member_at id number None)) n
+      (λ w at. ap (λ (x : Member). x.chain) at) c (list-kept m id r.kept.0 r.kept.2 sound versions number r.kept.3.0 r.kept.4.kind (member_at id number None) n list)
       (λ changes keeps. statics-kept other r.kept.0.chain number r.kept.3.0 (its-form m id r.kept.0 r.kept.2 sound versions) changes keeps row h up)
       (40 + length (row_code row)) (weight-statics row some)
       (each-grows (join_flagged_statics row Inherit) (40 + length (row_code row)) (λ v is under. statics-bytes row Inherit v up (statics-under schema v.statics under.statics)))
@@ -142,7 +142,7 @@ module _ (S : ℕ) (schema : SchemaValue) (m : Memory) (id number bytes : ℕ) (
   range-room from to f t enough = let a = dummy_within false schema from (key_passes false schema from.prefix f.1) in let b = dummy_within false schema to (key_passes false schema to.prefix t.1) in let spare = r.spare in omega (arith, a, b, spare, enough)
 
   pub range-there : (from to : Pos) (tomb : Tomb) (n : Memory) → IsVersionChanged id number (range_joined from to tomb) Nowhere m n →
-      OfVersion m id number (λ k v. (mid : List Member) × IsRenewedWhereNone k.chain.kind v (member id number (Some from)) m.recency mid × IsRenewedWhereNone k.chain.kind v (member id number (Some to)) mid n.recency) →
+      OfVersion m id number (λ k v. (mid : List Member) × IsRenewedWhereNone k.chain.kind v (member_at id number (Some from)) m.recency mid × IsRenewedWhereNone k.chain.kind v (member_at id number (Some to)) mid n.recency) →
       (other : SchemaValue) → IsRangeBound other from → IsRangeBound other to → IsChangeWritten other id (written_range from to tomb) 512 m n
   range-there from to tomb n c list other f t = written-there m id r.kept.0 r.kept.2 sound versions number r.kept.3.0 r.kept.3.1 other (written_range from to tomb) (range_joined from to tomb) Nowhere n
       (λ w no. absurd no) c (range-list-kept m id r.kept.0 r.kept.2 sound versions number r.kept.3.0 r.kept.4.kind from to n list)

@@ -9,7 +9,7 @@ use Rattle.rc_mutation.specs.Source.{changes_to}
 use Rattle.rc_core.specs.declared.entries.ChainKind.TheVariants.{Memtable}
 use Rattle.rc_core.specs.Chains.{Shown, at_place, upto}
 use Rattle.rc_core.specs.StandsFor.{StandsFor}
-use Rattle.rc_core.specs.Steps.{free_number, pin_at, pinned}
+use Rattle.rc_core.specs.Steps.{free_number, pin_at, pins_with}
 use Rattle.rc_core.specs.laws.MemtableChains.{snapshot-memtable}
 use Rattle.rc_core.specs.laws.Pins.{pin-given}
 use Rattle.rc_memory.specs.Kept.{IsSoundChain}
@@ -79,6 +79,6 @@ module _ (m n : Memory) (id pin phase : ℕ) (taken : IsSnapshotTaken m n id pin
       let number : pin ≡ free_number old.0.chain.pins = of-chain (λ k. pin ≡ free_number k.chain.pins) (chain_at m id) old.0 old.1 taken.number in
       subst (λ (q : KeptChain). (j : ℕ) × (pin_at q.chain.pins pin ≡ Some j) × StandsFor (changes_to key writes) (upto q.chain.versions j)) same (
         snapshot_number old.0.chain,
-        ap (pin_at (pinned (snapshot_number old.0.chain) old.0.chain.pins)) number ∙ pin-given (snapshot_number old.0.chain) old.0.chain.pins,
+        ap (pin_at (pins_with (snapshot_number old.0.chain) old.0.chain.pins)) number ∙ pin-given (snapshot_number old.0.chain) old.0.chain.pins,
         subst (StandsFor (changes_to key writes)) (sym (take-all old.0.chain.versions (suc (snapshot_number old.0.chain)) (newest-number old.0.chain s old.2.kind))) old.2.stands,
       )

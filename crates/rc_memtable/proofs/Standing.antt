@@ -23,7 +23,7 @@ use Rattle.rc_core.specs.Chain.{content, states_at}
 use Rattle.rc_core.specs.Continuity.{EachOf, static_states}
 use Rattle.rc_core.specs.Parts.{SomeHasEntryAt}
 use Rattle.rc_core.specs.SpotState.{SpotState, over, through}
-use Rattle.rc_core.specs.Version.{On, Version, entry_answers, seen, state_at, static_state}
+use Rattle.rc_core.specs.Version.{On, Version, entry_answers, finding_in, state_at, static_state}
 use Rattle.rc_core.specs.laws.Folding.{content-through}
 use Rattle.rc_memtable.specs.Fits.{IsEntryUnder, IsVersionUnder}
 
@@ -57,12 +57,12 @@ module _ (schema : SchemaValue) (x : Pos) where
   later : (e : Entry) (es : List Entry) (o : Option Row) → (o ≡ None) ⊎ Stands es → (o ≡ None) ⊎ Stands (e ∷ es)
   later e es o h = ⊎_elim (λ n. inl n) (λ s. inr (inr s.0, s.1)) h
 
-  none-or-stands : (es : List Entry) → EachEntry (IsEntryUnder schema) es → ((seen (On x) es).row ≡ None) ⊎ Stands es
+  none-or-stands : (es : List Entry) → EachEntry (IsEntryUnder schema) es → ((finding_in (On x) es).row ≡ None) ⊎ Stands es
   none-or-stands [] h = inl refl
-  none-or-stands (e ∷ es) h = elim (pos_cmp x e.position) as (λ r. pos_cmp x e.position ≡ r → ((entry_answers r e (seen (On x) es)).row ≡ None) ⊎ Stands (e ∷ es)) [
+  none-or-stands (e ∷ es) h = elim (pos_cmp x e.position) as (λ r. pos_cmp x e.position ≡ r → ((entry_answers r e (finding_in (On x) es)).row ≡ None) ⊎ Stands (e ∷ es)) [
     | Less ↦ λ o. inl refl
     | Equal ↦ λ o. of-row e es (pos_cmp_same x e.position o) h.0 e.row refl
-    | Greater ↦ λ o. later e es (seen (On x) es).row (none-or-stands es h.1)
+    | Greater ↦ λ o. later e es (finding_in (On x) es).row (none-or-stands es h.1)
   ] refl
 
   none-or-some : (vs : List Version) → EachOf (IsVersionUnder schema) vs → EachOf (λ v. (state_at (On x) v).rows ≡ []) vs ⊎ (SomeHasEntryAt x vs × IsTrue (is_key_of true schema x.prefix))

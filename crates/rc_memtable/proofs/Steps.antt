@@ -19,12 +19,12 @@ use Rattle.rc_core.specs.Version.{IsVersion, Version}
 use Rattle.rc_core.specs.laws.Memtables.{left-alone}
 use Rattle.rc_core.specs.laws.Surgery.{each-of-back}
 use Rattle.rc_version.specs.Versions.{version_bytes}
-use Rattle.rc_registry.specs.Registry.{put}
+use Rattle.rc_registry.specs.Registry.{put_at_number}
 use Rattle.rc_memory.specs.Kept.{IsSoundChain}
 use Rattle.rc_memory.specs.Memory.{HasVersion, KeptChain, Member, Memory, IsVersionAt, chain_at, on_chain, on_shown, on_version_of}
 use Rattle.rc_memory.specs.Recency.{IsLastInner, IsUnderUpdate}
 use Rattle.rc_memory.specs.Room.{FitTogether}
-use Rattle.rc_memory.specs.Changes.{FitsChanged, IsRenewed, IsRenewedWhereNone, IsVersionChanged, KeepsLast, LastIsListed, OfVersion, member}
+use Rattle.rc_memory.specs.Changes.{FitsChanged, IsRenewed, IsRenewedWhereNone, IsVersionChanged, KeepsLast, LastIsListed, OfVersion, member_at}
 use Rattle.rc_memory.specs.laws.At.{number-there}
 use Rattle.rc_memory.specs.laws.Listing.{pos_decided}
 use Rattle.rc_memory.specs.laws.Places.{same_some}
@@ -48,7 +48,7 @@ use Rattle.rc_memtable.proofs.Kept.{over-below, over-kept}
 pub chain-now : (m n : Memory) (id : ℕ) (f : KeptChain → KeptChain) (k : KeptChain) → n.chains ≡ on_chain id f m.chains → chain_at m id ≡ Some k → chain_at n id ≡ Some (f k)
 chain-now m n id f k is there = ap (λ cs. slice_index_or cs id None) is ∙ put-at m.chains id (option_map f (chain_at m id)) ∙ ap (option_map f) there
 
-pub chain-beside : (m n : Memory) (id : ℕ) (c : Option KeptChain) (i : ℕ) → n.chains ≡ put id c m.chains → (i ≡ id → ⊥) → chain_at n i ≡ chain_at m i
+pub chain-beside : (m n : Memory) (id : ℕ) (c : Option KeptChain) (i : ℕ) → n.chains ≡ put_at_number id c m.chains → (i ≡ id → ⊥) → chain_at n i ≡ chain_at m i
 chain-beside m n id c i is ne = ap (λ cs. slice_index_or cs i None) is ∙ put-beside m.chains id c i ne
 
 -- what holds of each chain holds of this one
@@ -89,8 +89,8 @@ entry-or-not x (e ∷ es) = elim (pos_decided e.position x) [
 unlisted : (kind : ChainKind) (w : Member) (old new : List Member) → kind ≡ Memtable → IsRenewed kind w old new → new ≡ old
 unlisted kind w old new is h = subst (λ (k : ChainKind). IsRenewed k w old new) is h
 
-twice-kept : (kind : ChainKind) (v : Version) (id j : ℕ) (x : Pos) (old new : List Member) → kind ≡ Memtable → IsRenewedWhereNone kind v (member id j (Some x)) old new → new ≡ old
-twice-kept kind v id j x old new is h = elim (entry-or-not x v.entries) [ inl there ↦ h.there there | inr off ↦ unlisted kind (member id j (Some x)) old new is (h.made off) ]
+twice-kept : (kind : ChainKind) (v : Version) (id j : ℕ) (x : Pos) (old new : List Member) → kind ≡ Memtable → IsRenewedWhereNone kind v (member_at id j (Some x)) old new → new ≡ old
+twice-kept kind v id j x old new is h = elim (entry-or-not x v.entries) [ inl there ↦ h.there there | inr off ↦ unlisted kind (member_at id j (Some x)) old new is (h.made off) ]
 
 -- ---- the other chains
 
@@ -162,7 +162,7 @@ module _ (m : Memory) (id : ℕ) (k : KeptChain) (there : chain_at m id ≡ Some
     list-kept memtable w n h = unlisted k.chain.kind w m.recency n.recency memtable (h k its-version.0 there its-version.1)
 
     pub range-list-kept : k.chain.kind ≡ Memtable → (from to : Pos) (n : Memory) →
-        OfVersion m id j (λ k v. (mid : List Member) × IsRenewedWhereNone k.chain.kind v (member id j (Some from)) m.recency mid × IsRenewedWhereNone k.chain.kind v (member id j (Some to)) mid n.recency) → n.recency ≡ m.recency
+        OfVersion m id j (λ k v. (mid : List Member) × IsRenewedWhereNone k.chain.kind v (member_at id j (Some from)) m.recency mid × IsRenewedWhereNone k.chain.kind v (member_at id j (Some to)) mid n.recency) → n.recency ≡ m.recency
     range-list-kept memtable from to n h = let r = h k its-version.0 there its-version.1 in
         twice-kept k.chain.kind its-version.0 id j to r.0 n.recency memtable r.2 ∙ twice-kept k.chain.kind its-version.0 id j from m.recency r.0 memtable r.1
 
@@ -179,7 +179,7 @@ module _ (m : Memory) (id : ℕ) (k : KeptChain) (there : chain_at m id ≡ Some
     not-under j u = let e : false ≡ true = sym settled ∙ u.0 in absurd (cc)
 
     pub last-then : (j : ℕ) (f : Version → Version) → KeepsLast id j f m
-    last-then j f = if-chain (λ k. (v : Version) → IsVersionAt k.chain.versions j v → IsUnderUpdate k.chain j → (at : Option Pos) → IsLastInner v at → IsLastInner (f v) at ⊎ Contains m.recency (member id j at)) (chain_at m id) k there (λ v at u. absurd (not-under j u))
+    last-then j f = if-chain (λ k. (v : Version) → IsVersionAt k.chain.versions j v → IsUnderUpdate k.chain j → (at : Option Pos) → IsLastInner v at → IsLastInner (f v) at ⊎ Contains m.recency (member_at id j at)) (chain_at m id) k there (λ v at u. absurd (not-under j u))
 
     pub last-listed : LastIsListed id m
     last-listed q j v at e u = absurd (not-under j (subst (λ (p : KeptChain). IsUnderUpdate p.chain j) (sym (same_some k q (sym there ∙ e))) u))

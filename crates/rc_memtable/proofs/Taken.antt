@@ -9,7 +9,7 @@ use Rattle.rc_core.specs.Chains.{at_place, upto}
 use Rattle.rc_core.specs.Chain.{IsEvenAt}
 use Rattle.rc_core.specs.declared.entries.ChainKind.TheVariants.{Memtable}
 use Rattle.rc_core.specs.Continuity.{EachOf}
-use Rattle.rc_core.specs.Steps.{free_number, pin_at, pinned, released}
+use Rattle.rc_core.specs.Steps.{free_number, pin_at, pins_with, pins_without}
 use Rattle.rc_core.specs.Version.{IsVersion, Version}
 use Rattle.rc_core.specs.laws.Pins.{pin-given}
 use Rattle.rc_position.specs.declared.positions.Pos.{Pos}
@@ -60,7 +60,7 @@ before-then l m n g h = record {
 -- ---- a snapshot taken, and taken back
 
 -- each number pins what it pinned
-back-again : (version : ℕ) (pins : List (Option ℕ)) (i : ℕ) → pin_at (released (free_number pins) (pinned version pins)) i ≡ pin_at pins i
+back-again : (version : ℕ) (pins : List (Option ℕ)) (i : ℕ) → pin_at (pins_without (free_number pins) (pins_with version pins)) i ≡ pin_at pins i
 back-again version [] zero = refl
 back-again version [] (suc i) = refl
 back-again version (None ∷ ps) zero = refl
@@ -85,7 +85,7 @@ module _ (m n : Memory) (id chain pin phase : ℕ) (same : chain ≡ id) (taken 
     number = snapshot_number k.chain;
     there = there-then k e;
     kind = keeps.kind;
-    pinned = ap (pin_at (pinned (snapshot_number k.chain) k.chain.pins)) (pin-is k e) ∙ pin-given (snapshot_number k.chain) k.chain.pins;
+    pinned = ap (pin_at (pins_with (snapshot_number k.chain) k.chain.pins)) (pin-is k e) ∙ pin-given (snapshot_number k.chain) k.chain.pins;
     seen = take-all k.chain.versions (suc (snapshot_number k.chain)) (newest-number k.chain (of-chain (λ k. IsSoundChain k.chain) (chain_at m id) k e (sound id)) keeps.kind);
   })
 
@@ -99,7 +99,7 @@ module _ (m n : Memory) (id chain pin phase : ℕ) (same : chain ≡ id) (taken 
       versions = refl;
       attached = refl;
       updating = refl;
-      pins = λ i. ap (λ p. pin_at (released p (pinned (snapshot_number k.chain) k.chain.pins)) i) (pin-is k e) ∙ back-again (snapshot_number k.chain) k.chain.pins i;
+      pins = λ i. ap (λ p. pin_at (pins_without p (pins_with (snapshot_number k.chain) k.chain.pins)) i) (pin-is k e) ∙ back-again (snapshot_number k.chain) k.chain.pins i;
       passed = refl;
     }
 

@@ -5,7 +5,7 @@
 --     TakesNoMore  the region has as many segments, no more is live, and no count fell
 use Rattle.std.specs.Prelude.{◌≡◌, ◌≤◌, ◌⊎◌, ℕ, List, [], ◌∷◌, ◌++◌, Option, Some, None, length}
 use Rattle.lsa_region.specs.Region.{live_bytes}
-use Rattle.rc_registry.specs.Registry.{AreFree, put}
+use Rattle.rc_registry.specs.Registry.{AreFree, put_at_number}
 use Rattle.rc_memory.specs.Memory.{KeptChain, Memory, chain_at, on_chain, on_shown, shown_detached}
 
 -- the chains are these, and so are the numbers to be told; the recency list and the counts are as they were, the region has as many segments, no object was moved, and no more is live in it
@@ -20,7 +20,7 @@ pub record HasLeft (those : List (Option KeptChain)) (told : List ℕ) (old new 
 
 -- a chain is gone, and its number is to be told
 abbrev pub IsGone : ℕ → Memory → Memory → Type 0
-IsGone id old new = HasLeft (put id None old.chains) (old.dropped ++ id ∷ []) old new
+IsGone id old new = HasLeft (put_at_number id None old.chains) (old.dropped ++ id ∷ []) old new
 
 -- a chain is gone where nobody pins it; else all is as it was
 abbrev pub IsFreedUnpinned : ℕ → Memory → Memory → Type 0

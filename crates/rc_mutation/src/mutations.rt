@@ -8,7 +8,7 @@ ghost use Rattle.rc_mutation.specs.Source.{IsJoinOf, IsMutation};
 
 use crate::rows::Rows;
 use crate::statics::Statics;
-use rc_cell::Tomb;
+use rc_cell::{Tomb, greater_of};
 use rc_position::PartKey;
 use rc_ranges::Ranges;
 use std::alloc::{AllocError, Global};
@@ -85,11 +85,7 @@ impl Mutation {
 pub fn greater_tomb(ours: Option<Tomb>, theirs: Option<Tomb>) -> Option<Tomb>
     ensures { result ≡ greater tomb_cmp ours theirs }
 {
-    match (ours, theirs) {
-        (Some(ours), Some(theirs)) => Some(theirs.max(ours)),
-        (Some(ours), None) => Some(ours),
-        (None, theirs) => theirs,
-    }
+    greater_of(ours, theirs)
 }
 
 /// A write to one partition.

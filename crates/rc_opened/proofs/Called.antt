@@ -13,7 +13,7 @@ use Rattle.rc_opened.specs.declared.no_files.NoFiles.{NoFiles}
 use Rattle.rc_snapshots.specs.declared.snaps.Snaps.{Snaps}
 use Rattle.rc_opened.specs.declared.written.Written.{Written}
 use Rattle.rc_opened.specs.declared.opened.Opened.{Opened}
-use Rattle.rc_opened.specs.Opened.{AreStreamsOf, GivesLines, OfSources, active_of, no_files, sealed_of, snaps_in, snaps_of}
+use Rattle.rc_opened.specs.Opened.{AreStreamsOf, GivesLines, OfSources, active_stream_of, no_files, sealed_stream_of, snaps_in, snaps_of}
 use Rattle.rc_opened.specs.Written.{DidAs, IsStreamOf, OfSnapshot, snap_in}
 use Rattle.rc_opened.proofs.Kept.{in_turn, merges}
 
@@ -80,20 +80,20 @@ of_snap (Some s) (Some r) is = ap Some is.snap
 -- so the snapshots are the same, and the streams are theirs
 pub same_snaps : (s t : OfSources × Memory × NoFiles) → Keep s t → AreStreamsOf (snaps_in s.0) s.0 → snaps_in t.0 ≡ snaps_in s.0
 same_snaps s t k are =
-    let sealed = of_snap (snap_in (sealed_of s.0).stream) (sealed_of t.0).stream (k.0.0 (snap_in (sealed_of s.0).stream) are.sealed) in
-    let active = of_snap (snap_in (active_of s.0).stream) (active_of t.0).stream (k.0.1 (snap_in (active_of s.0).stream) are.active) in
+    let sealed = of_snap (snap_in (sealed_stream_of s.0).stream) (sealed_stream_of t.0).stream (k.0.0 (snap_in (sealed_stream_of s.0).stream) are.sealed) in
+    let active = of_snap (snap_in (active_stream_of s.0).stream) (active_stream_of t.0).stream (k.0.1 (snap_in (active_stream_of s.0).stream) are.active) in
     λ i. record { sealed = sealed i; active = active i }
 
 pub same_streams : (s t : OfSources × Memory × NoFiles) → Keep s t → AreStreamsOf (snaps_in s.0) s.0 → AreStreamsOf (snaps_in t.0) t.0
 same_streams s t k are =
     subst (λ snaps. AreStreamsOf snaps t.0) (sym (same_snaps s t k are))
-    (record { sealed = k.0.0 (snap_in (sealed_of s.0).stream) are.sealed; active = k.0.1 (snap_in (active_of s.0).stream) are.active })
+    (record { sealed = k.0.0 (snap_in (sealed_stream_of s.0).stream) are.sealed; active = k.0.1 (snap_in (active_stream_of s.0).stream) are.active })
 
 -- the snapshots of streams that are those of some are these
 pub own_snaps : (snaps : Snaps) (s : OfSources) → AreStreamsOf snaps s → snaps_in s ≡ snaps
 own_snaps snaps s are =
-    let sealed = of_snap snaps.sealed (sealed_of s).stream are.sealed in
-    let active = of_snap snaps.active (active_of s).stream are.active in
+    let sealed = of_snap snaps.sealed (sealed_stream_of s).stream are.sealed in
+    let active = of_snap snaps.active (active_stream_of s).stream are.active in
     λ i. record { sealed = sealed i; active = active i }
 
 pub own_streams : (snaps : Snaps) (s : OfSources) → AreStreamsOf snaps s → AreStreamsOf (snaps_in s) s

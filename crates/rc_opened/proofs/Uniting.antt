@@ -31,7 +31,7 @@ use Rattle.rc_mutation.specs.laws.FragMerge.{changes-placed, fragment_of, merge-
 use Rattle.rc_mutation.specs.laws.CanonicalMerging.{Change, IsChanges, changes_in}
 use Rattle.rc_mutation.specs.laws.CanonicalPieces.{canonical-pieces, changes-pieces, pieces_in}
 use Rattle.rc_query.specs.laws.Compacting.{along, along-ranges}
-use Rattle.rc_stream.specs.Merging.{IsOrdered, IsTelling, StandsBefore, merged, rows_here, same_tomb}
+use Rattle.rc_stream.specs.Merging.{IsOrdered, IsTelling, StandsBefore, merged_stream, rows_here, same_tomb}
 use Rattle.rc_stream.specs.Showing.{IsFromStart}
 use Rattle.rc_stream.specs.laws.Ordered.{itself}
 use Rattle.rc_stream.specs.Stream.{Stream, force, stream_of}
@@ -139,11 +139,11 @@ in_order-of pieces is = sym (merge-in_order [] (changes_of pieces) refl (changes
 
 module _ (whole : (m : Mutation) → IsMutation m → IsFromStart (stream_of (fragments m)))
     (stream : (m : Mutation) → IsMutation m → stream_of (fragments m) ≡ record { head = record { pt = m.pt; statics = m.statics }; tomb = None; left = in_order (list_map placed_row m.rows ++ list_map placed_change (changes_of m.ranges)) })
-    (ordered : (s t : Stream) → IsOrdered s.left → IsOrdered t.left → IsOrdered (merged s t).left)
-    (telling : (s t : Stream) → IsOrdered s.left → IsOrdered t.left → IsTelling (merged s t).tomb (merged s t).left)
-    (rows : (s t : Stream) (x : Pos) → IsOrdered s.left → IsOrdered t.left → rows_here x (merged s t).left ≡ option_to_list (joined_if_any (rows_here x s.left ++ rows_here x t.left)))
-    (first : (s t : Stream) → (merged s t).tomb ≡ greater tomb_cmp s.tomb t.tomb)
-    (tombs : (s t : Stream) (x : Pos) → IsOrdered s.left → IsOrdered t.left → force x (merged s t).tomb (merged s t).left ≡ greater tomb_cmp (force x s.tomb s.left) (force x t.tomb t.left))
+    (ordered : (s t : Stream) → IsOrdered s.left → IsOrdered t.left → IsOrdered (merged_stream s t).left)
+    (telling : (s t : Stream) → IsOrdered s.left → IsOrdered t.left → IsTelling (merged_stream s t).tomb (merged_stream s t).left)
+    (rows : (s t : Stream) (x : Pos) → IsOrdered s.left → IsOrdered t.left → rows_here x (merged_stream s t).left ≡ option_to_list (joined_if_any (rows_here x s.left ++ rows_here x t.left)))
+    (first : (s t : Stream) → (merged_stream s t).tomb ≡ greater tomb_cmp s.tomb t.tomb)
+    (tombs : (s t : Stream) (x : Pos) → IsOrdered s.left → IsOrdered t.left → force x (merged_stream s t).tomb (merged_stream s t).left ≡ greater tomb_cmp (force x s.tomb s.left) (force x t.tomb t.left))
     (one other : List Piece) (is : IsCanonical one) (too : IsCanonical other) where
   -- the stream of range tombstones alone
   abbrev of : List Piece → Stream
@@ -168,7 +168,7 @@ module _ (whole : (m : Mutation) → IsMutation m → IsFromStart (stream_of (fr
       ∙ along-ranges pieces can y
 
   abbrev both : Stream
-  both = merged (of one) (of other)
+  both = merged_stream (of one) (of other)
 
   both_ordered : IsOrdered both.left
   both_ordered = ordered (of one) (of other) (start-of one is).1 (start-of other too).1

@@ -31,12 +31,12 @@ abbrev pub OfSources : Type 0
 OfSources = Merge Stream (Merge Written Written)
 
 -- its streams of what is sealed and of what is written since
-abbrev pub sealed_of : OfSources → Written
-sealed_of s = s.theirs.stream.ours.stream
+abbrev pub sealed_stream_of : OfSources → Written
+sealed_stream_of s = s.theirs.stream.ours.stream
 
 -- what it has of the later writes
-abbrev pub active_of : OfSources → Written
-active_of s = s.theirs.stream.theirs.stream
+abbrev pub active_stream_of : OfSources → Written
+active_stream_of s = s.theirs.stream.theirs.stream
 
 -- the store over which it reads
 abbrev pub no_files : NoFiles
@@ -54,7 +54,7 @@ pub record AreSources (tables : Mutation) (snaps : Snaps) (s : OfSources) : Type
 
 -- the snapshots that are read
 abbrev pub snaps_in : OfSources → Snaps
-snaps_in s = record { sealed = snap_in (sealed_of s).stream; active = snap_in (active_of s).stream }
+snaps_in s = record { sealed = snap_in (sealed_stream_of s).stream; active = snap_in (active_stream_of s).stream }
 
 -- the snapshots of an open reader
 abbrev pub snaps_of : Opened → Snaps
@@ -62,8 +62,8 @@ snaps_of o = snaps_in o.reader.stream
 
 -- the streams are those of these snapshots, wherever they stand
 pub record AreStreamsOf (snaps : Snaps) (s : OfSources) : Type 0 where
-  pub sealed : IsStreamOf snaps.sealed (sealed_of s).stream
-  pub active : IsStreamOf snaps.active (active_of s).stream
+  pub sealed : IsStreamOf snaps.sealed (sealed_stream_of s).stream
+  pub active : IsStreamOf snaps.active (active_stream_of s).stream
 
 -- These lines are left to an open reader over chains: its stream may be called, leaves them, and is that of its snapshots.
 pub record GivesLines (ready : OfSources → Memory → NoFiles → Type 0) (seen : OfSources → Memory → NoFiles → Stream → Type 0) (m : Memory) (o : Opened) (lines : List OutLine) : Type 0 where

@@ -8,7 +8,7 @@ use Rattle.rc_outside.specs.declared.stores.StoreErr.TheVariants.{Fault}
 use Rattle.rc_outside.specs.declared.calls.StoreCall.{StoreCall}
 use Rattle.rc_outside.specs.declared.calls.StoreCall.TheVariants.{Numbers, Size, ReadAt, Begin, Append, Finish}
 use Rattle.rc_outside.specs.contracts.calls.StoreCall.{the_row}
-use Rattle.rc_outside.specs.Faults.{raised}
+use Rattle.rc_outside.specs.Faults.{raised_count}
 use Rattle.rc_outside.specs.Files.{Files, Draft, unless_refused}
 use Rattle.rc_outside.specs.States.{StoreState, store_code}
 
@@ -52,8 +52,8 @@ mem_code =
     (λ p. record { files = p.0.files; building = p.0.building; asks = p.0.asks; fails = p.1.0; faults = p.1.1 }) (λ _. refl)
 
 -- the store after a call of this kind was counted, and failed where it was due
-abbrev pub counted : StoreCall → MemState → MemState
-counted call s = record s { fails = map (one_call_nearer call) s.fails; faults = if is_due call s.fails then raised s.faults else s.faults }
+abbrev pub store_after_call : StoreCall → MemState → MemState
+store_after_call call s = record s { fails = map (one_call_nearer call) s.fails; faults = if is_due call s.fails then raised_count s.faults else s.faults }
 
 -- the answer is a fault
 abbrev pub is_fault : {T : Type 0} → Result T StoreErr → Bool
@@ -62,16 +62,16 @@ is_fault _ = false
 
 -- the store after `read_at`: a range was asked for
 abbrev pub after_read_at : MemState → MemState
-after_read_at s = let now = counted ReadAt s in record now { asks = raised s.asks }
+after_read_at s = let now = store_after_call ReadAt s in record now { asks = raised_count s.asks }
 
 -- the store after `begin`
 abbrev pub after_begin : MemState → ℕ → Result (Unit {0}) StoreErr → MemState
-after_begin s n result = let now = counted Begin s in record now { building = unless_refused result (Some (n, [])) }
+after_begin s n result = let now = store_after_call Begin s in record now { building = unless_refused result (Some (n, [])) }
 
 -- the store after `append`
 abbrev pub after_append : MemState → List ℕ → Result (Unit {0}) StoreErr → MemState
 after_append s piece result =
-    let now = counted Append s in record now { building = unless_refused result (option_map (λ draft. (draft.0, draft.1 ++ piece)) s.building) }
+    let now = store_after_call Append s in record now { building = unless_refused result (option_map (λ draft. (draft.0, draft.1 ++ piece)) s.building) }
 
 -- the files with a finished one among them
 abbrev pub with_finished : Files → Option Draft → Files
@@ -81,4 +81,4 @@ with_finished files None = files
 -- the store after `finish`
 abbrev pub after_finish : MemState → Result (Unit {0}) StoreErr → MemState
 after_finish s result =
-    let now = counted Finish s in record now { files = if is_ok result then with_finished s.files s.building else s.files; building = None }
+    let now = store_after_call Finish s in record now { files = if is_ok result then with_finished s.files s.building else s.files; building = None }

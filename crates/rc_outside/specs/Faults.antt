@@ -5,12 +5,12 @@ use Rattle.rc_outside.specs.declared.stores.StoreErr.{StoreErr}
 use Rattle.rc_outside.specs.declared.stores.StoreErr.TheVariants.{Fault, NoMemory}
 
 -- one more than the count, which stays at its end, 2^64 - 1
-abbrev pub raised : ℕ → ℕ
-raised count = min (count + 1) (2 ^ 64 - 1)
+abbrev pub raised_count : ℕ → ℕ
+raised_count count = min (count + 1) (2 ^ 64 - 1)
 
 -- the count of faults rose: it is greater than before, or stands at its end, 2^64 - 1
 abbrev pub Rose : ℕ → ℕ → Type 0
-Rose before now = raised before ≤ now
+Rose before now = raised_count before ≤ now
 
 -- the count of faults of an end that never fails
 abbrev pub no_faults : ℕ

@@ -51,8 +51,8 @@ abbrev pub new_draft : Option Files → ℕ → Option (Option Draft)
 new_draft files n = Some (option_map (λ _. (n, [])) files)
 
 -- what is being built after `append`: it grew by the piece
-abbrev pub grown : Option (Option Draft) → List ℕ → Option (Option Draft)
-grown building piece = option_map (option_map (λ draft. (draft.0, draft.1 ++ piece))) building
+abbrev pub grown_draft : Option (Option Draft) → List ℕ → Option (Option Draft)
+grown_draft building piece = option_map (option_map (λ draft. (draft.0, draft.1 ++ piece))) building
 
 -- the files after `finish`: what was being built is among them, told where both were
 abbrev pub with_draft : Option Files → Option (Option Draft) → Option Files

@@ -5,7 +5,7 @@ use Rattle.std.specs.FinMap as map
 use Rattle.rc_outside.specs.declared.sources.Failed.{Failed as SourceFailed}
 use Rattle.rc_outside.specs.declared.sinks.SinkErr.{SinkErr}
 use Rattle.rc_outside.specs.declared.sinks.SinkErr.TheVariants.{Failed, NoMemory}
-use Rattle.rc_outside.specs.Faults.{raised}
+use Rattle.rc_outside.specs.Faults.{raised_count}
 use Rattle.rc_outside.specs.Files.{Files, Draft}
 
 -- a source in memory: the bytes that are left, the numbers of the calls that are to fail, how many calls there were
@@ -37,11 +37,11 @@ store_code =
 
 -- a pull that gives k bytes takes them; one that fails takes nothing and is counted as a fault
 abbrev pub after_pull : SourceState → Result ℕ SourceFailed → SourceState
-after_pull s (Ok k) = record s { left = drop k s.left; calls = raised s.calls }
-after_pull s (Err _) = record s { calls = raised s.calls; faults = raised s.faults }
+after_pull s (Ok k) = record s { left = drop k s.left; calls = raised_count s.calls }
+after_pull s (Err _) = record s { calls = raised_count s.calls; faults = raised_count s.faults }
 
 -- a push writes the piece, or fails, writes nothing and is counted as a fault; at want of memory the sink is as it was
 abbrev pub after_push : SinkState → List ℕ → Result (Unit {0}) SinkErr → SinkState
-after_push s piece (Ok _) = record s { written = s.written ++ piece; calls = raised s.calls }
-after_push s _ (Err Failed) = record s { calls = raised s.calls; faults = raised s.faults }
+after_push s piece (Ok _) = record s { written = s.written ++ piece; calls = raised_count s.calls }
+after_push s _ (Err Failed) = record s { calls = raised_count s.calls; faults = raised_count s.faults }
 after_push s _ (Err NoMemory) = s

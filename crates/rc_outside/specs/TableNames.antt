@@ -11,5 +11,5 @@ ReadsTableName name None = (n : ℕ) → 0 < n → n < 2 ^ 32 → name ≢ table
 ReadsTableName name (Some n) = (0 < n) × (name ≡ table_name n)
 
 -- behind some numbers stands then that of a name, where it is that of a table
-abbrev pub Takes : (name old new : List ℕ) → Type 0
-Takes name old new = (number : Option ℕ) × ReadsTableName name number × (new ≡ old ++ option_to_list number)
+abbrev pub TakesTableName : (name old new : List ℕ) → Type 0
+TakesTableName name old new = (number : Option ℕ) × ReadsTableName name number × (new ≡ old ++ option_to_list number)

@@ -2,7 +2,7 @@
 ghost use Rattle.std.specs.Prelude.{◌≡◌, ◌≤◌, ℕ, None, Some, IsSome, IfOk, OnOk, OnErr, option_map, string_bytes};
 ghost use Rattle.std.specs.Io.KnownBytes.{Appends};
 ghost use Rattle.std.specs.List.Sorted.{IsStrictlyIncreasing};
-ghost use Rattle.rc_outside.specs.Faults.{raised, RisesIfFailed, RisesIfFault, OnFault, Rose};
+ghost use Rattle.rc_outside.specs.Faults.{raised_count, RisesIfFailed, RisesIfFault, OnFault, Rose};
 ghost use Rattle.rc_outside.specs.Host.{StandsIn, bytes_of_draft};
 ghost use Rattle.rc_outside.specs.calls.Host.{Heard, HeardOrFailed, IsToldAs};
 ghost use Rattle.rc_outside.specs.TableNames.{table_name};
@@ -57,7 +57,7 @@ impl<'a, R: Files + AllocGlobal + Clone + Drop> FolderStore<'a, R> {
 }
 
 impl<'a, R: Files + AllocGlobal + Clone + Drop> Store for FolderStore<'a, R> {
-    ghost use Rattle.rc_outside.specs.Files.{AreBytesOf, HoldsSameFiles, unless_refused, grown};
+    ghost use Rattle.rc_outside.specs.Files.{AreBytesOf, HoldsSameFiles, unless_refused, grown_draft};
 
     ghost files = { λ _. None };
 
@@ -83,7 +83,7 @@ impl<'a, R: Files + AllocGlobal + Clone + Drop> Store for FolderStore<'a, R> {
         ensures building { self.new.building ≡ self.old.building }
         ensures store { HoldsSameFiles ⟦<FolderStore<'a, R> as Store>⟧.files ⟦<FolderStore<'a, R> as Store>⟧.building self.old self.new }
         ensures faults { RisesIfFailed result self.old.faults self.new.faults }
-        ensures asks { self.new.asks ≡ raised self.old.asks }
+        ensures asks { self.new.asks ≡ raised_count self.old.asks }
     {
         raise(&mut self.asks);
         heard_or_failed(&mut self.faults, read_table(self.rt, n, off, into))
@@ -98,7 +98,7 @@ impl<'a, R: Files + AllocGlobal + Clone + Drop> Store for FolderStore<'a, R> {
     fn append(&mut self, _alloc: Global, piece: &[u8]) -> Result<(), StoreErr>
         requires { IsSome (⟦<FolderStore<'a, R> as Store>⟧.building self.old) }
         ensures building { let building = ⟦<FolderStore<'a, R> as Store>⟧.building in
-            building self.new ≡ unless_refused result (grown (building self.old) piece.now) }
+            building self.new ≡ unless_refused result (grown_draft (building self.old) piece.now) }
         ensures faults { RisesIfFault OnFault result self.old.faults self.new.faults }
         ensures asks { self.new.asks ≡ self.old.asks }
         ensures whole { let contents = bytes_of_draft ⟦<R::File as Write>⟧.contents in

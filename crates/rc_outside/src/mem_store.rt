@@ -37,7 +37,7 @@ impl Model for MemStore {
 }
 
 impl MemStore {
-    ghost use Rattle.rc_outside.specs.Failures.{counted, is_due};
+    ghost use Rattle.rc_outside.specs.Failures.{is_due, store_after_call};
 
     /// A store with no files, in which nothing is being built, of which nothing was asked and no call is to fail.
     /// No memory is taken yet, so it is never `AllocError`.
@@ -80,7 +80,7 @@ impl MemStore {
     /// Counts a call of this kind. `Failed` exactly where it is to fail.
     fn count(&mut self, call: StoreCall) -> Result<(), Failed>
         ensures faults { RisesIfFailed result self.old.faults self.new.faults }
-        ensures state { self.new ≡ counted call self.old }
+        ensures state { self.new ≡ store_after_call call self.old }
         ensures due { is_err result ≡ is_due call self.old.fails }
     {
         let due = is_listed(&self.fails, call);
@@ -94,8 +94,8 @@ impl MemStore {
 
     /// Counts a call of this kind. `StoreErr::Fault` exactly where it is to fail: then nothing is being built any more.
     fn count_building(&mut self, call: StoreCall) -> Result<(), StoreErr>
-        ensures ok { OnOk result (self.new ≡ counted call self.old) }
-        ensures err { OnErr result (let now = counted call self.old in self.new ≡ record now { building = None }) }
+        ensures ok { OnOk result (self.new ≡ store_after_call call self.old) }
+        ensures err { OnErr result (let now = store_after_call call self.old in self.new ≡ record now { building = None }) }
         ensures faults { RisesIfFault OnFault result self.old.faults self.new.faults }
         ensures due { result ≡ (if is_due call self.old.fails then Err StoreErr.Fault else Ok tt) }
     {
@@ -110,7 +110,7 @@ impl MemStore {
 }
 
 impl Store for MemStore {
-    ghost use Rattle.rc_outside.specs.Failures.{counted, is_due, is_fault, after_read_at, after_begin, after_append, after_finish};
+    ghost use Rattle.rc_outside.specs.Failures.{store_after_call, is_due, is_fault, after_read_at, after_begin, after_append, after_finish};
 
     ghost files = { λ s. Some s.files };
 
@@ -124,7 +124,7 @@ impl Store for MemStore {
         ensures numbers { IfOk result (λ v. AreNumbers (Some self.old.files) v.items) }
         ensures faults { RisesIfFault OnFault result self.old.faults self.new.faults }
         ensures listed { is_fault result ≡ is_due StoreCall.Numbers self.old.fails }
-        ensures state { self.new ≡ counted StoreCall.Numbers self.old }
+        ensures state { self.new ≡ store_after_call StoreCall.Numbers self.old }
     {
         match self.count(StoreCall::Numbers) {
             Ok(()) => self.store.numbers(alloc),
@@ -137,7 +137,7 @@ impl Store for MemStore {
         ensures size { IfOk result (λ k. IsSizeOf (Some self.old.files) n k) }
         ensures faults { RisesIfFailed result self.old.faults self.new.faults }
         ensures listed { is_err result ≡ is_due StoreCall.Size self.old.fails }
-        ensures state { self.new ≡ counted StoreCall.Size self.old }
+        ensures state { self.new ≡ store_after_call StoreCall.Size self.old }
     {
         self.count(StoreCall::Size)?;
         self.store.size(n)

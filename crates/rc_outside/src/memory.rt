@@ -1,7 +1,7 @@
 // Ends in memory, whose calls fail where their maker lists them.
 ghost use Rattle.std.specs.Prelude.{◌≡◌, ◌↔◌, ℕ, ◌<◌, ◌≤◌, [], List, Some, Ok, Err, IsErr, Contains, length, min, take, drop, IfOk, MatchResult};
 ghost use Rattle.std.specs.Io.KnownBytes.{ReadConsumes};
-ghost use Rattle.rc_outside.specs.Faults.{raised, Rose};
+ghost use Rattle.rc_outside.specs.Faults.{raised_count, Rose};
 
 use super::counts::raise;
 use super::sinks::{Sink, SinkErr};
@@ -66,7 +66,7 @@ impl Source for MemSource {
             (λ _. self.new.faults ≡ self.old.faults)
             (λ _. Rose self.old.faults self.new.faults) }
 
-        ensures listed { IsErr result ↔ Contains self.old.fails (raised self.old.calls) }
+        ensures listed { IsErr result ↔ Contains self.old.fails (raised_count self.old.calls) }
         ensures gives { IfOk result (λ k. k ≡ min (length into.old) (length self.old.left)) }
         ensures state { self.new ≡ after_pull self.old result }
     {
@@ -137,7 +137,7 @@ impl Sink for MemSink {
     fn push(&mut self, piece: &[u8]) -> Result<(), SinkErr>
         ensures pushed { Pushed (Some self.old.written) (Some self.new.written) self.old.faults self.new.faults
             piece.now result }
-        ensures listed { (result ≡ Err SinkErr.Failed) ↔ Contains self.old.fails (raised self.old.calls) }
+        ensures listed { (result ≡ Err SinkErr.Failed) ↔ Contains self.old.fails (raised_count self.old.calls) }
         ensures state { self.new ≡ after_push self.old piece.now result }
     {
         let call = self.calls.saturating_add(1);

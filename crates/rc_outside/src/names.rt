@@ -1,7 +1,7 @@
 // The names in the folder, and which of them are those of tables.
 ghost use Rattle.std.specs.Prelude.{◌≡◌, ◌↔◌, ◌++◌, ℕ, Contains, IfOk, MatchResult, OnOk, OnErr, string_bytes, slice_index};
 ghost use Rattle.std.specs.List.Sorted.{IsStrictlyIncreasing};
-ghost use Rattle.rc_outside.specs.TableNames.{ReadsTableName, Takes, table_name};
+ghost use Rattle.rc_outside.specs.TableNames.{ReadsTableName, TakesTableName, table_name};
 ghost use Rattle.rc_outside.specs.calls.TableNames.{ReadsNumber, in_folder, draft_name};
 
 use std::alloc::{AllocError, Global};
@@ -25,7 +25,7 @@ pub(crate) fn draft_path(alloc: Global, n: u32) -> Result<String, AllocError>
 
 /// Puts the number of a name in the folder behind the others, where it is that of a table.
 pub(crate) fn take_name(numbers: &mut Vec<u32>, name: &str) -> Result<(), AllocError>
-    ensures { OnOk result (Takes name.now numbers.old.items numbers.new.items) }
+    ensures { OnOk result (TakesTableName name.now numbers.old.items numbers.new.items) }
 {
     if let Some(n) = table_number(name) {
         numbers.push(n)?;

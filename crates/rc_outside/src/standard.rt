@@ -1,7 +1,7 @@
 // The trusted edge: standard input and standard output. Each counts its faults in 64 bits.
 ghost use Rattle.std.specs.Prelude.{◌≡◌, ◌≢◌, ◌<◌, ◌≤◌, Err, length, drop, IfOk, OnErr, MatchResult};
 ghost use Rattle.std.specs.Io.KnownBytes.{Appends, ReadConsumes};
-ghost use Rattle.rc_outside.specs.Faults.{Rose, raised};
+ghost use Rattle.rc_outside.specs.Faults.{Rose, raised_count};
 ghost use Rattle.rc_outside.specs.Pushed.{AppendsFront, Pushed};
 
 use super::counts::raise;
@@ -52,7 +52,7 @@ impl<R: Read> Source for StdSource<R> {
             (λ _. faults self.new ≡ faults self.old)
             (λ _. Rose (faults self.old) (faults self.new)) }
         ensures counted { let faults = ⟦<StdSource<R> as Source>⟧.faults in
-            OnErr result (faults self.new ≡ raised (faults self.old)) }
+            OnErr result (faults self.new ≡ raised_count (faults self.old)) }
     {
         let mut block = [0; BLOCK];
         let room = into.len().min(BLOCK);
@@ -102,7 +102,7 @@ impl<W: Write> Sink for StdSink<W> {
             Pushed (written self.old) (written self.new) (faults self.old) (faults self.new)
             piece.now result }
         ensures counted { let faults = ⟦<StdSink<W> as Sink>⟧.faults in
-            OnErr result (faults self.new ≡ raised (faults self.old)) }
+            OnErr result (faults self.new ≡ raised_count (faults self.old)) }
         ensures memory { result ≢ Err SinkErr.NoMemory }
     {
         match write_whole(&mut self.writer, piece) {

@@ -1,7 +1,7 @@
 // Where files lie.
 ghost use Rattle.std.specs.Prelude.{◌≡◌, ℕ, ◌≤◌, Option, None, length, IsSome, IfOk, OnOk, MatchResult};
-ghost use Rattle.rc_outside.specs.Files.{HoldsSameFiles, Files, Draft, IsFile, IsNoFile, LiesInFile, AreNumbers, IsSizeOf, AreBytesOf, new_draft, grown, with_draft, unless_refused};
-ghost use Rattle.rc_outside.specs.Faults.{raised};
+ghost use Rattle.rc_outside.specs.Files.{HoldsSameFiles, Files, Draft, IsFile, IsNoFile, LiesInFile, AreNumbers, IsSizeOf, AreBytesOf, new_draft, grown_draft, with_draft, unless_refused};
+ghost use Rattle.rc_outside.specs.Faults.{raised_count};
 
 use super::sources::Failed;
 use std::alloc::Global;
@@ -59,7 +59,7 @@ pub trait Store {
         ensures bytes { OnOk result (AreBytesOf (files self.old) n off into.new) }
         ensures store { HoldsSameFiles files building self.old self.new }
         ensures faults { RisesIfFailed result (faults self.old) (faults self.new) }
-        ensures asks { asks self.new ≡ raised (asks self.old) };
+        ensures asks { asks self.new ≡ raised_count (asks self.old) };
 
     /// Begins to build file `n`, which is not there, with no bytes, where nothing is being built. `StoreErr::Fault`
     /// when the outside fails, `StoreErr::NoMemory` when memory is refused: then nothing is being built.
@@ -76,7 +76,7 @@ pub trait Store {
     fn append(&mut self, alloc: Global, piece: &[u8]) -> Result<(), StoreErr>
         requires { IsSome (building self.old) }
         ensures files { files self.new ≡ files self.old }
-        ensures building { building self.new ≡ unless_refused result (grown (building self.old) piece.now) }
+        ensures building { building self.new ≡ unless_refused result (grown_draft (building self.old) piece.now) }
         ensures faults { RisesIfFault OnFault result (faults self.old) (faults self.new) }
         ensures asks { asks self.new ≡ asks self.old };
 

@@ -2,7 +2,7 @@
 ghost use Rattle.std.specs.Prelude.{◌≡◌, ◌≢◌, ℕ, ◌≤◌, [], List, None, Some, Ok, Err, length, IsSome, IsOk, IfOk, OnOk, OnErr, MatchResult, option_map};
 ghost use Rattle.std.specs.FinMap as map;
 ghost use Rattle.rc_outside.specs.Files.{IsNoFile};
-ghost use Rattle.rc_outside.specs.Faults.{raised, no_faults};
+ghost use Rattle.rc_outside.specs.Faults.{raised_count, no_faults};
 
 use super::counts::raise;
 use super::files::{Contents, Shelf};
@@ -60,7 +60,7 @@ impl SureStore {
 
     /// Counts a range of a file as asked for.
     pub(crate) fn count_ask(&mut self)
-        ensures { self.new ≡ record self.old { asks = raised self.old.asks } }
+        ensures { self.new ≡ record self.old { asks = raised_count self.old.asks } }
     {
         raise(&mut self.asks);
     }

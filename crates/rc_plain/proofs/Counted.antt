@@ -6,7 +6,7 @@ use Rattle.rc_lines.specs.declared.commands.Reply.{Reply}
 use Rattle.rc_machine.specs.State.{State}
 use Rattle.rc_folder.specs.Counting.{AreCounted, counted_answer, figures_in}
 use Rattle.rc_folder.specs.declared.counts.Answered.{Answered}
-use Rattle.rc_plain.specs.Stands.{Keeping, Stands, plain_figures}
+use Rattle.rc_plain.specs.Stands.{Keeping, PlainStands, plain_figures}
 use Rattle.rc_plain.specs.calls.Counting.{AreSameCounts}
 
 pub if-ok-all : {A E : Type 0} (r : Result A E) (Q : A → Type 0) → ((x : A) → Q x) → IfOk r Q
@@ -14,7 +14,7 @@ if-ok-all (Ok x) Q all = all x
 if-ok-all (Err e) Q all = tt
 
 -- it stands for the same state whatever is counted
-pub stands-counted : (files : Option Files) (k : Keeping) (m : State) (a : Answered) → Stands files k m → Stands files (record k { answered = a }) m
+pub stands-counted : (files : Option Files) (k : Keeping) (m : State) (a : Answered) → PlainStands files k m → PlainStands files (record k { answered = a }) m
 stands-counted files k m a s = record { over = s.over; log = s.log; sealed = s.sealed; whole = s.whole; left = s.left; readers = s.readers; budget = s.budget }
 
 -- an answer is counted behind a step

@@ -7,7 +7,7 @@ use Rattle.rc_query.specs.declared.lines.OutLine.{OutLine}
 use Rattle.rc_tfile.specs.declared.info.TableInfo.{TableInfo}
 use Rattle.rc_lines.specs.declared.commands.Figures.{Figures}
 use Rattle.rc_folder.specs.declared.counts.Answered.{Answered}
-use Rattle.rc_machine.specs.State.{State, Reader, rest_of, unstored}
+use Rattle.rc_machine.specs.State.{State, Reader, rest_of, unstored_writes}
 use Rattle.rc_machine.specs.Standing.{IsOver}
 
 -- the schema; what is known of each table; the writes that stand in no table: those that are sealed, and the later ones; of each open reader the
@@ -28,9 +28,9 @@ abbrev pub rests : List (ℕ × Reader) → List (ℕ × List OutLine)
 rests readers = list_map (λ r. (r.0, rest_of r.1)) readers
 
 -- over a store with these files the program stands for the state: a flush is whole, so nothing that is written is left to the cache
-pub record Stands (told : Option Files) (k : Keeping) (m : State) : Type 0 where
+pub record PlainStands (told : Option Files) (k : Keeping) (m : State) : Type 0 where
   pub over : IsOver told k.schema k.infos m
-  pub log : k.sealed ++ k.active ≡ unstored m
+  pub log : k.sealed ++ k.active ≡ unstored_writes m
   pub sealed : m.sealed ≡ m.stored + length k.sealed
   pub whole : m.written ≡ false
   pub left : m.left ≡ 0

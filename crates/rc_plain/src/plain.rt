@@ -18,13 +18,13 @@ ghost use Rattle.rc_machine.specs.Serving.{FaultsAreCounted, OnFaulty, Stops, Ta
 ghost use Rattle.rc_folder.specs.Counting.{figures_in};
 ghost use Rattle.rc_folder.specs.Tabled.{IsNextNumber};
 ghost use Rattle.rc_plain.specs.calls.Answering.{IsAnswer};
-ghost use Rattle.rc_plain.specs.Stands.{Stands, plain_figures};
+ghost use Rattle.rc_plain.specs.Stands.{PlainStands, plain_figures};
 ghost use Rattle.rc_plain.specs.calls.Counting.{AreSameCounts};
 ghost use Rattle.rc_plain.specs.calls.Storing.{IsFlushKept, sealed_all};
 
 use crate::memtable::Memtable;
 use crate::readers::{Rest, place_of};
-use rc_folder::{Answered, Folder, Machine, OpenErr};
+use rc_folder::{Answered, Folder, MOST_READERS, Machine, OpenErr};
 use rc_lines::{Command, Figures, Refusal, Reply};
 use rc_mutation::{Mutation, Write};
 use rc_outside::Store;
@@ -36,9 +36,6 @@ use rc_tfile::WriteErr;
 use std::alloc::{AllocError, Global};
 use std::marker::Model;
 use std::mem;
-
-/// The most readers that may be open at once.
-const MOST_READERS: usize = 64;
 
 /// A plain, slow program that takes one step of the machine after another. It knows of each table of the folder where the directory
 /// lists its partitions, keeps the writes that stand in no table, and makes the whole answer of a reader when it is opened. A contract
@@ -64,9 +61,9 @@ impl Model for Plain {
 
 impl Machine for Plain {
     ghost use Rattle.rc_folder.specs.Tabled.{Tabled};
-    ghost use Rattle.rc_plain.specs.Stands.{Stands, plain_figures};
+    ghost use Rattle.rc_plain.specs.Stands.{PlainStands, plain_figures};
 
-    ghost stands = { Stands };
+    ghost stands = { PlainStands };
 
     ghost folder = { λ k. record { schema = k.schema; infos = k.infos } };
 
@@ -142,9 +139,9 @@ impl Plain {
     ) -> Result<Reply, AllocError>
         requires fits { CommandFits self.old.schema command.now }
         requires built { IsTrue (is_built command.now) }
-        requires stands { (m : State) × Stands (W.files store.old) self.old m }
-        ensures step { IfOk result (λ reply. Takes Stands (W.files store.old) self.old command.now reply (W.files store.new) self.new) }
-        ensures err { OnErr result (Stops Stands (W.files store.old) self.old command.now (W.files store.new) self.new) }
+        requires stands { (m : State) × PlainStands (W.files store.old) self.old m }
+        ensures step { IfOk result (λ reply. Takes PlainStands (W.files store.old) self.old command.now reply (W.files store.new) self.new) }
+        ensures err { OnErr result (Stops PlainStands (W.files store.old) self.old command.now (W.files store.new) self.new) }
         ensures faults { FaultsAreCounted result (W.faults store.old) (W.faults store.new) }
         ensures asks { W.asks store.new ≤ W.asks store.old + most_asks self.old.infos command.now }
         ensures counts { AreSameCounts self.old self.new }
@@ -168,7 +165,7 @@ impl Plain {
 
     // The reply to a schema line: fine where it is the same schema again.
     fn set_schema(&self, schema: &Schema) -> Reply
-        ensures step { (files : Option Files) → Takes Stands files self.now (Command.SetSchema schema.now) result files self.now }
+        ensures step { (files : Option Files) → Takes PlainStands files self.now (Command.SetSchema schema.now) result files self.now }
         ensures faultless { (n : ℕ) → OnFaulty result (Rose n n) }
     {
         if self.folder.schema().is_same(schema) {
@@ -181,7 +178,7 @@ impl Plain {
     // Puts a write behind the others.
     fn put(&mut self, alloc: Global, write: &Write) -> Result<Reply, AllocError>
         requires { CommandFits self.old.schema (Command.Put write.now) }
-        ensures step { (files : Option Files) → IfOk result (λ reply. Takes Stands files self.old (Command.Put write.now) reply files self.new) }
+        ensures step { (files : Option Files) → IfOk result (λ reply. Takes PlainStands files self.old (Command.Put write.now) reply files self.new) }
         ensures fine { IfOk result (λ reply. reply ≡ Reply.Fine) }
         ensures err { OnErr result (self.new ≡ self.old) }
         ensures counts { AreSameCounts self.old self.new }
@@ -200,8 +197,8 @@ impl Plain {
         key: &PartKey,
         slice: &Slice,
     ) -> Result<Reply, AllocError>
-        requires { (m : State) × Stands (W.files store.old) self.old m }
-        ensures step { IfOk result (λ reply. Takes Stands (W.files store.old) self.old (Command.OpenRead id key.now slice.now) reply (W.files store.new) self.new) }
+        requires { (m : State) × PlainStands (W.files store.old) self.old m }
+        ensures step { IfOk result (λ reply. Takes PlainStands (W.files store.old) self.old (Command.OpenRead id key.now slice.now) reply (W.files store.new) self.new) }
         ensures err { OnErr result (self.new ≡ self.old) }
         ensures faults { FaultsAreCounted result (W.faults store.old) (W.faults store.new) }
         ensures store { HoldsSameFiles W.files W.building store.old store.new }
@@ -235,8 +232,8 @@ impl Plain {
         key: &PartKey,
         slice: &Slice,
     ) -> Result<Lines, StreamErr>
-        requires { (m : State) × Stands (W.files store.old) self.now m }
-        ensures lines { IfOk result (λ lines. (m : State) → Stands (W.files store.old) self.now m → IsAnswer m key.now slice.now lines) }
+        requires { (m : State) × PlainStands (W.files store.old) self.now m }
+        ensures lines { IfOk result (λ lines. (m : State) → PlainStands (W.files store.old) self.now m → IsAnswer m key.now slice.now lines) }
         ensures damaged { IfErr result (IsDamageOf self.now.schema key.now self.now.infos) }
         ensures cause { Caused result (W.files store.old) (W.faults store.old) (W.faults store.new) }
         ensures store { HoldsSameFiles W.files W.building store.old store.new }
@@ -271,7 +268,7 @@ impl Plain {
 
     // Gives a reader's next lines.
     fn read(&mut self, alloc: Global, id: u32, count: u32) -> Result<Reply, AllocError>
-        ensures step { (files : Option Files) → IfOk result (λ reply. Takes Stands files self.old (Command.Read id count) reply files self.new) }
+        ensures step { (files : Option Files) → IfOk result (λ reply. Takes PlainStands files self.old (Command.Read id count) reply files self.new) }
         ensures faultless { (n : ℕ) → IfOk result (λ reply. OnFaulty reply (Rose n n)) }
         ensures err { OnErr result (self.new ≡ self.old) }
         ensures counts { AreSameCounts self.old self.new }
@@ -288,7 +285,7 @@ impl Plain {
 
     // Closes a reader.
     fn close_reader(&mut self, id: u32) -> Reply
-        ensures step { (files : Option Files) → Takes Stands files self.old (Command.Close id) result files self.new }
+        ensures step { (files : Option Files) → Takes PlainStands files self.old (Command.Close id) result files self.new }
         ensures faultless { (n : ℕ) → OnFaulty result (Rose n n) }
         ensures counts { AreSameCounts self.old self.new }
     {
@@ -301,9 +298,9 @@ impl Plain {
 
     // Writes the sealed writes as the next table; all writes are sealed before, unless some are.
     fn flush<W: Store>(&mut self, alloc: Global, store: &mut W) -> Result<Reply, AllocError>
-        requires { (m : State) × Stands (W.files store.old) self.old m }
-        ensures step { IfOk result (λ reply. Takes Stands (W.files store.old) self.old Command.Flush reply (W.files store.new) self.new) }
-        ensures err { OnErr result (Stops Stands (W.files store.old) self.old Command.Flush (W.files store.new) self.new) }
+        requires { (m : State) × PlainStands (W.files store.old) self.old m }
+        ensures step { IfOk result (λ reply. Takes PlainStands (W.files store.old) self.old Command.Flush reply (W.files store.new) self.new) }
+        ensures err { OnErr result (Stops PlainStands (W.files store.old) self.old Command.Flush (W.files store.new) self.new) }
         ensures faults { FaultsAreCounted result (W.faults store.old) (W.faults store.new) }
         ensures asks { W.asks store.new ≡ W.asks store.old }
         ensures counts { AreSameCounts self.old self.new }
@@ -343,7 +340,7 @@ impl Plain {
         store: &mut W,
         number: u32,
     ) -> Result<Reply, AllocError>
-        requires stands { (m : State) × Stands (W.files store.old) self.old m }
+        requires stands { (m : State) × PlainStands (W.files store.old) self.old m }
         requires number { IsNextNumber self.old.infos (Some number) }
         ensures written { IfOk result (IsFlushKept (W.files store.old) self.old number (W.files store.new) self.new) }
         ensures err { OnErr result ((self.new ≡ self.old) × (W.files store.new ≡ W.files store.old)) }

@@ -6,10 +6,10 @@ use Rattle.rc_position.specs.declared.positions.Pos.{Pos}
 use Rattle.rc_position.specs.Position.{Head, Place}
 use Rattle.rc_core.specs.Steps.{on_version}
 use Rattle.rc_core.specs.Version.{Version}
-use Rattle.rc_registry.specs.Registry.{put}
+use Rattle.rc_registry.specs.Registry.{put_at_number}
 use Rattle.rc_memory.specs.Memory.{HasVersion, KeptChain, Member, Memory, IsVersionAt, chain_at, on_chain, on_shown, on_version_of, shown_with}
 use Rattle.rc_memory.specs.Recency.{IsLastInner, IsUnderUpdate}
-use Rattle.rc_memory.specs.Changes.{IsVersionChanged, KeepsLast, Nowhere, OfVersion, member}
+use Rattle.rc_memory.specs.Changes.{IsVersionChanged, KeepsLast, Nowhere, OfVersion, member_at}
 use Rattle.rc_memory.specs.laws.At.{found-version, number-low}
 use Rattle.rc_memory.specs.laws.Listed.{one-at}
 use Rattle.rc_memory.specs.laws.Places.{same_some}
@@ -26,8 +26,8 @@ on-both (suc j) f g (v ∷ vs) = ap (λ l. v ∷ l) (on-both j f g vs)
 
 both-chains : (id j : ℕ) (f g : Version → Version) (cs : List (Option KeptChain)) → on_chain id (on_shown (on_version_of j g)) (on_chain id (on_shown (on_version_of j f)) cs) ≡ on_chain id (on_shown (on_version_of j (λ v. g (f v)))) cs
 both-chains id j f g cs =
-    ap (λ o. put id (option_map (on_shown (on_version_of j g)) o) (on_chain id (on_shown (on_version_of j f)) cs)) (put-at cs id (option_map (on_shown (on_version_of j f)) (slice_index_or cs id None)))
-    ∙ put-put cs id (option_map (on_shown (on_version_of j g)) (option_map (on_shown (on_version_of j f)) (slice_index_or cs id None))) (option_map (on_shown (on_version_of j f)) (slice_index_or cs id None)) ∙ ap (λ o. put id o cs) (mapped (slice_index_or cs id None))
+    ap (λ o. put_at_number id (option_map (on_shown (on_version_of j g)) o) (on_chain id (on_shown (on_version_of j f)) cs)) (put-at cs id (option_map (on_shown (on_version_of j f)) (slice_index_or cs id None)))
+    ∙ put-put cs id (option_map (on_shown (on_version_of j g)) (option_map (on_shown (on_version_of j f)) (slice_index_or cs id None))) (option_map (on_shown (on_version_of j f)) (slice_index_or cs id None)) ∙ ap (λ o. put_at_number id o cs) (mapped (slice_index_or cs id None))
   where
     mapped : (o : Option KeptChain) → option_map (on_shown (on_version_of j g)) (option_map (on_shown (on_version_of j f)) o) ≡ option_map (on_shown (on_version_of j (λ v. g (f v)))) o
     mapped None = refl
@@ -47,7 +47,7 @@ module _ (id j : ℕ) (these : Member → Type 0) where
   -- two changes that are alike for the version that is there
   pub changed-alike : (f g : Version → Version) (m o : Memory) → ((k : KeptChain) (v : Version) → chain_at m id ≡ Some k → IsVersionAt k.chain.versions j v → f v ≡ g v) → IsVersionChanged id j f these m o → IsVersionChanged id j g these m o
   changed-alike f g m o alike h = record {
-    chains = h.chains ∙ ap (λ x. put id x m.chains) (of (chain_at m id) refl);
+    chains = h.chains ∙ ap (λ x. put_at_number id x m.chains) (of (chain_at m id) refl);
     dropped = h.dropped;
     counts = h.counts;
     still = h.still;
@@ -101,6 +101,6 @@ settled-of false e = refl
 pub last-free : (m : Memory) (id j : ℕ) (f : Version → Version) → ((k : KeptChain) → chain_at m id ≡ Some k → k.chain.updating ≡ false) → KeepsLast id j f m
 last-free m id j f settled = of (chain_at m id) refl
   where
-    of : (o : Option KeptChain) → chain_at m id ≡ o → IfSome o (λ k. (v : Version) → IsVersionAt k.chain.versions j v → IsUnderUpdate k.chain j → (at : Option Pos) → IsLastInner v at → IsLastInner (f v) at ⊎ Contains m.recency (member id j at))
+    of : (o : Option KeptChain) → chain_at m id ≡ o → IfSome o (λ k. (v : Version) → IsVersionAt k.chain.versions j v → IsUnderUpdate k.chain j → (at : Option Pos) → IsLastInner v at → IsLastInner (f v) at ⊎ Contains m.recency (member_at id j at))
     of None e = tt
     of (Some k) e = λ v number under at inner. (let no : false ≡ true = sym (settled k e) ∙ under.0 in absurd (cc))

@@ -6,7 +6,7 @@ use Rattle.rc_core.specs.declared.entries.ChainKind.{ChainKind}
 use Rattle.rc_core.specs.declared.entries.Entry.{Entry}
 use Rattle.rc_core.specs.declared.entries.Mark.{Mark}
 use Rattle.rc_core.specs.AtPlace.{HasEntryAt}
-use Rattle.rc_core.specs.Change.{at_entry, known_with, split, with_mark}
+use Rattle.rc_core.specs.Change.{at_entry, gap_split, known_with, with_mark}
 use Rattle.rc_core.specs.Continuity.{with_entries}
 use Rattle.rc_core.specs.Steps.{set_flags, set_tombs, with_flags, with_tombs}
 use Rattle.rc_core.specs.Version.{Ascend, EndsWithDummy, IsVersion, Version}
@@ -50,13 +50,13 @@ module _ (x : Pos) (at gap : Mark) (tomb : Option Tomb) (v : Version) (i : IsVer
 -- ---- two splits
 
 -- an entry stands at both positions then
-pub split-twice : (x y : Pos) (es : List Entry) → EndsWithDummy es → HasEntryAt x (split y (split x es)) × HasEntryAt y (split y (split x es))
+pub split-twice : (x y : Pos) (es : List Entry) → EndsWithDummy es → HasEntryAt x (gap_split y (gap_split x es)) × HasEntryAt y (gap_split y (gap_split x es))
 split-twice x y es ends =
     let once = split-ends x es ends in
-    (has-split y x (split x es) (stands-has x (split x es) (split-stands x es (position-reached x es ends))), stands-has y (split y (split x es)) (split-stands y (split x es) (position-reached y (split x es) once)))
+    (has-split y x (gap_split x es) (stands-has x (gap_split x es) (split-stands x es (position-reached x es ends))), stands-has y (gap_split y (gap_split x es)) (split-stands y (gap_split x es) (position-reached y (gap_split x es) once)))
 
 -- the second one makes an entry where there was none before the first one
-pub split-both : (kind : ChainKind) (c : Version) (x y : Pos) (w : Member) → w.position ≡ Some y → x ≢ y → (old new : List Member) → IsRenewedWhereNone kind (with_entries (split x c.entries) c) w old new → IsRenewedWhereNone kind c w old new
+pub split-both : (kind : ChainKind) (c : Version) (x y : Pos) (w : Member) → w.position ≡ Some y → x ≢ y → (old new : List Member) → IsRenewedWhereNone kind (with_entries (gap_split x c.entries) c) w old new → IsRenewedWhereNone kind c w old new
 split-both kind c x y w is ne old new r = record {
   made = λ none. r.made (λ object. elim (only-split c x w.position object) [ inl there ↦ none there | inr here ↦ ne (same_some x y (sym here ∙ is)) ]);
   there = λ object. r.there (keeps-split c x w.position object);

@@ -7,7 +7,7 @@ use Rattle.rc_position.specs.Position.{Head}
 use Rattle.rc_core.specs.Chains.{at_place}
 use Rattle.rc_core.specs.Steps.{MayPopulate, on_newest, on_version, pin_at}
 use Rattle.rc_core.specs.Version.{Version}
-use Rattle.rc_registry.specs.Registry.{put}
+use Rattle.rc_registry.specs.Registry.{put_at_number}
 use Rattle.rc_memory.specs.declared.counts.Counts.{Counts}
 use Rattle.rc_memory.specs.Memory.{HasPin, HasVersion, KeptChain, Member, Memory, IsVersionAt, chain_at, counts_raised, on_shown, on_version_of, shown_with}
 use Rattle.rc_memory.specs.Room.{FitTogether}
@@ -78,7 +78,7 @@ raised-alike more a b e = ap (λ (c : Counts). (counts_raised 0 0 more (record {
 module _ (id j : ℕ) (f : Version → Version) (these : Member → Type 0) (old mid new : Memory) (before : ℕ) (h : IsVersionChanged id j f these old mid) (live : before ≡ live_bytes old.region) (now : new ≡ counts_raised 0 0 (before - live_bytes mid.region) mid) where
   pub filled-then : ((k : KeptChain) → chain_at old id ≡ Some k → suc j ≡ length k.chain.versions) → (k : KeptChain) → chain_at old id ≡ Some k → IsFilled id f these old new
   filled-then newest k e = subst (IsFilled id f these old) (sym now) (record {
-    chains = h.chains ∙ ap (λ o. put id o old.chains)
+    chains = h.chains ∙ ap (λ o. put_at_number id o old.chains)
         (ap (option_map (on_shown (on_version_of j f))) e
         ∙ ap (λ vs. Some (on_shown (λ c. shown_with vs c) k)) (on-newest j f k.chain.versions (newest k e))
         ∙ sym (ap (option_map (on_shown (on_newest_of f))) e));

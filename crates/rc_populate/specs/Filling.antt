@@ -1,11 +1,11 @@
 -- What is filled into a cache chain from below, and what that makes of all chains.
---     MayFill         a snapshot populates the cache
---     OfPinned        what holds of the chain of a snapshot, and of the version that it pins
---     given           a static row as it is filled: none where nothing is written in it
---     gap_need        how many bytes a filled gap takes at most
---     on_newest_of    something done to the newest version of a chain
---     IsFilled        something was filled into the newest version of a chain
---     IsEntryOpened   a chain came to be whose head is known
+--     MayFill          a snapshot populates the cache
+--     OfPinned         what holds of the chain of a snapshot, and of the version that it pins
+--     filled_statics   a static row as it is filled: none where nothing is written in it
+--     gap_need         how many bytes a filled gap takes at most
+--     on_newest_of     something done to the newest version of a chain
+--     IsFilled         something was filled into the newest version of a chain
+--     IsEntryOpened    a chain came to be whose head is known
 use Rattle.std.specs.Prelude.{◌≡◌, ◌+◌, ◌-◌, ℕ, true, false, List, [], ◌∷◌, ◌++◌, Option, Some, None, IsSomeAnd, cond}
 use Rattle.rc_cell.specs.declared.rows.Row.{Row}
 use Rattle.rc_cell.specs.declared.writes.Tomb.{Tomb}
@@ -19,9 +19,9 @@ use Rattle.rc_core.specs.declared.entries.ChainKind.TheVariants.{Cache}
 use Rattle.rc_core.specs.Chains.{Shown, at_place}
 use Rattle.rc_core.specs.Steps.{MayPopulate, on_newest, opened_version, pin_at}
 use Rattle.rc_core.specs.Version.{Version, end_position}
-use Rattle.rc_registry.specs.Registry.{IsNumberIn, put}
+use Rattle.rc_registry.specs.Registry.{IsNumberIn, put_at_number}
 use Rattle.rc_memory.specs.Memory.{KeptChain, Member, Memory, IsVersionAt, chain_at, counts_raised, on_chain, on_shown, shown_with}
-use Rattle.rc_memory.specs.Changes.{IsRenewed, IsRenewedWhereNone, IsUnmoved, StandStill, member}
+use Rattle.rc_memory.specs.Changes.{IsRenewed, IsRenewedWhereNone, IsUnmoved, StandStill, member_at}
 
 -- the snapshot of a number pins the newest version of a chain that is found by its key and is not under update
 abbrev pub MayFill : Memory → ℕ → ℕ → Type 0
@@ -32,8 +32,8 @@ abbrev pub OfPinned : Memory → ℕ → ℕ → (KeptChain → ℕ → Version 
 OfPinned m id pin P = (k : KeptChain) (j : ℕ) (v : Version) → chain_at m id ≡ Some k → pin_at k.chain.pins pin ≡ Some j → IsVersionAt k.chain.versions j v → P k j v
 
 -- a static row as it is filled: none where nothing is written in it
-abbrev pub given : Row → Option Row
-given row = cond (is_written row) (Some row) None
+abbrev pub filled_statics : Row → Option Row
+filled_statics row = cond (is_written row) (Some row) None
 
 -- how many bytes a filled gap takes at most: a dummy at both ends
 abbrev pub gap_need : Pos → Pos → ℕ
@@ -66,14 +66,14 @@ chain_opened pt statics phase = record { chain = record { kind = Cache; versions
 
 -- the objects of such a chain that are in the recency list: its end dummy, and then its static row, where there is one
 abbrev pub opened_places : ℕ → Option Row → List Member
-opened_places id None = member id 0 (Some end_position) ∷ []
-opened_places id (Some row) = member id 0 (Some end_position) ∷ member id 0 None ∷ []
+opened_places id None = member_at id 0 (Some end_position) ∷ []
+opened_places id (Some row) = member_at id 0 (Some end_position) ∷ member_at id 0 None ∷ []
 
 -- such a chain came to be, whose number no other chain has, nor one that is to be told; its objects are the most recent ones
 pub record IsEntryOpened (id : ℕ) (pt : Option Tomb) (statics : Option Row) (phase : ℕ) (old new : Memory) : Type 0 where
   pub vacant : chain_at old id ≡ None
   pub told : IsNumberIn old.dropped id → ⊥
-  pub chains : new.chains ≡ put id (Some (chain_opened pt statics phase)) old.chains
+  pub chains : new.chains ≡ put_at_number id (Some (chain_opened pt statics phase)) old.chains
   pub recency : new.recency ≡ old.recency ++ opened_places id statics
   pub dropped : new.dropped ≡ old.dropped
   pub counts : new.counts ≡ old.counts

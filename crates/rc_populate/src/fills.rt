@@ -9,8 +9,8 @@ ghost use Rattle.rc_core.specs.Version.{static_state};
 ghost use Rattle.rc_version.specs.Versions.{statics_bytes};
 ghost use Rattle.rc_memory.specs.Memory.{HasVersion, counts_raised};
 ghost use Rattle.rc_memory.specs.Room.{FitTogether};
-ghost use Rattle.rc_memory.specs.Changes.{AtAlone, FitsChanged, IsVersionChanged, OfVersion, member};
-ghost use Rattle.rc_populate.specs.Filling.{IsFilled, IsGivenListed, MayFill, OfPinned, given};
+ghost use Rattle.rc_memory.specs.Changes.{AtAlone, FitsChanged, IsVersionChanged, OfVersion, member_at};
+ghost use Rattle.rc_populate.specs.Filling.{IsFilled, IsGivenListed, MayFill, OfPinned, filled_statics};
 
 use rc_cell::Row;
 use rc_chain::{Chains, Snap};
@@ -20,14 +20,14 @@ use rc_rowcode::row_in_range;
 // Joins a row to the static row of a version, whose flag is Known then, also where nothing is written in the row.
 pub(crate) fn put_static<const S: usize>(chains: &mut Chains<S>, id: u64, number: u64, row: &Row)
     requires row { RowFits row.now }
-    requires small { statics_bytes (given row.now) ≤ S / 8 }
+    requires small { statics_bytes (filled_statics row.now) ≤ S / 8 }
     requires version { HasVersion chains.old id number }
     requires source { OfVersion chains.old id number (λ k v. IsWithin (static_state v) (row.now, None)) }
-    requires fits { FitsChanged S id number (fill_statics (given row.now)) chains.old }
-    requires spare { statics_bytes (given row.now) ≤ spare_of S chains.old.region.usages }
-    ensures filled { IsVersionChanged id number (fill_statics (given row.now)) (AtAlone (member id number None)) chains.old chains.new }
-    ensures listed { OfVersion chains.old id number (λ k v. IsGivenListed k.chain.kind (given row.now) (member id number None) chains.old.recency chains.new.recency) }
-    ensures spare { spare_of S chains.old.region.usages ≤ spare_of S chains.new.region.usages + statics_bytes (given row.now) }
+    requires fits { FitsChanged S id number (fill_statics (filled_statics row.now)) chains.old }
+    requires spare { statics_bytes (filled_statics row.now) ≤ spare_of S chains.old.region.usages }
+    ensures filled { IsVersionChanged id number (fill_statics (filled_statics row.now)) (AtAlone (member_at id number None)) chains.old chains.new }
+    ensures listed { OfVersion chains.old id number (λ k v. IsGivenListed k.chain.kind (filled_statics row.now) (member_at id number None) chains.old.recency chains.new.recency) }
+    ensures spare { spare_of S chains.old.region.usages ≤ spare_of S chains.new.region.usages + statics_bytes (filled_statics row.now) }
 {
     if row.is_empty() {
         chains.set_static_flag(id, number, Flag::Known);
@@ -48,13 +48,13 @@ pub(crate) fn count_shrunk<const S: usize>(chains: &mut Chains<S>, before: usize
 pub fn fill_static<const S: usize>(chains: &mut Chains<S>, s: &Snap, row: &Row)
     requires may { MayFill chains.old s.now.chain s.now.pin }
     requires row { RowFits row.now }
-    requires small { statics_bytes (given row.now) ≤ S / 8 }
+    requires small { statics_bytes (filled_statics row.now) ≤ S / 8 }
     requires source { OfPinned chains.old s.now.chain s.now.pin (λ k j v. IsWithin (static_state v) (row.now, None)) }
-    requires fits { OfPinned chains.old s.now.chain s.now.pin (λ k j v. FitTogether S (on_newest (fill_statics (given row.now)) k.chain.versions)) }
-    requires spare { statics_bytes (given row.now) ≤ spare_of S chains.old.region.usages }
-    ensures filled { OfPinned chains.old s.now.chain s.now.pin (λ k j v. IsFilled s.now.chain (fill_statics (given row.now)) (AtAlone (member s.now.chain j None)) chains.old chains.new) }
-    ensures listed { OfPinned chains.old s.now.chain s.now.pin (λ k j v. IsGivenListed k.chain.kind (given row.now) (member s.now.chain j None) chains.old.recency chains.new.recency) }
-    ensures spare { spare_of S chains.old.region.usages ≤ spare_of S chains.new.region.usages + statics_bytes (given row.now) }
+    requires fits { OfPinned chains.old s.now.chain s.now.pin (λ k j v. FitTogether S (on_newest (fill_statics (filled_statics row.now)) k.chain.versions)) }
+    requires spare { statics_bytes (filled_statics row.now) ≤ spare_of S chains.old.region.usages }
+    ensures filled { OfPinned chains.old s.now.chain s.now.pin (λ k j v. IsFilled s.now.chain (fill_statics (filled_statics row.now)) (AtAlone (member_at s.now.chain j None)) chains.old chains.new) }
+    ensures listed { OfPinned chains.old s.now.chain s.now.pin (λ k j v. IsGivenListed k.chain.kind (filled_statics row.now) (member_at s.now.chain j None) chains.old.recency chains.new.recency) }
+    ensures spare { spare_of S chains.old.region.usages ≤ spare_of S chains.new.region.usages + statics_bytes (filled_statics row.now) }
 {
     let before = chains.region().live();
     let newest = chains.pinned_at(s);

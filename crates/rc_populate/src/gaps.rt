@@ -6,7 +6,7 @@ ghost use Rattle.rc_rowcode.specs.Objects.{dummy_size};
 ghost use Rattle.rc_rowcode.specs.Spelling.{KeyFits};
 ghost use Rattle.rc_core.specs.Steps.{gap_filled};
 ghost use Rattle.rc_memory.specs.Memory.{KeptChain, HasVersion, Member, chain_at};
-ghost use Rattle.rc_memory.specs.Changes.{IsRenewedWhereNone, IsVersionChanged, Nowhere, OfVersion, member};
+ghost use Rattle.rc_memory.specs.Changes.{IsRenewedWhereNone, IsVersionChanged, Nowhere, OfVersion, member_at};
 ghost use Rattle.rc_populate.specs.Filling.{AreBoundsListed, IsFilled, MayFill, OfPinned, gap_need};
 
 use crate::fills::count_shrunk;
@@ -30,7 +30,7 @@ fn know_gap<const S: usize>(
     requires small { (dummy_size from.now ≤ S / 8) × (dummy_size to.now ≤ S / 8) }
     requires spare { gap_need from.now to.now ≤ spare_of S chains.old.region.usages }
     ensures known { IsVersionChanged id number (gap_filled from.now to.now tomb) Nowhere chains.old chains.new }
-    ensures listed { OfVersion chains.old id number (λ k v. AreBoundsListed k.chain.kind v (member id number (Some from.now)) (member id number (Some to.now)) chains.old.recency chains.new.recency) }
+    ensures listed { OfVersion chains.old id number (λ k v. AreBoundsListed k.chain.kind v (member_at id number (Some from.now)) (member_at id number (Some to.now)) chains.old.recency chains.new.recency) }
     ensures spare { spare_of S chains.old.region.usages ≤ spare_of S chains.new.region.usages + gap_need from.now to.now }
 {
     chains.known();
@@ -53,7 +53,7 @@ pub fn fill_gap<const S: usize>(
     requires small { (dummy_size from.now ≤ S / 8) × (dummy_size to.now ≤ S / 8) }
     requires spare { gap_need from.now to.now ≤ spare_of S chains.old.region.usages }
     ensures filled { OfPinned chains.old s.now.chain s.now.pin (λ k j v. IsFilled s.now.chain (gap_filled from.now to.now tomb) Nowhere chains.old chains.new) }
-    ensures listed { OfPinned chains.old s.now.chain s.now.pin (λ k j v. AreBoundsListed k.chain.kind v (member s.now.chain j (Some from.now)) (member s.now.chain j (Some to.now)) chains.old.recency chains.new.recency) }
+    ensures listed { OfPinned chains.old s.now.chain s.now.pin (λ k j v. AreBoundsListed k.chain.kind v (member_at s.now.chain j (Some from.now)) (member_at s.now.chain j (Some to.now)) chains.old.recency chains.new.recency) }
     ensures spare { spare_of S chains.old.region.usages ≤ spare_of S chains.new.region.usages + gap_need from.now to.now }
 {
     let before = chains.region().live();

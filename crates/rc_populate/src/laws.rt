@@ -11,14 +11,14 @@ ghost use Rattle.rc_position.specs.Position.{Head, IsBefore, Place, covers};
 ghost use Rattle.rc_mutation.specs.declared.mutations.Mutation.{Mutation};
 ghost use Rattle.rc_mutation.specs.Source.{source_at, source_at_head, source_at_static};
 ghost use Rattle.rc_core.specs.declared.entries.ChainKind.TheVariants.{Cache};
-ghost use Rattle.rc_core.specs.Chain.{IsKnown, flagged, states_at};
+ghost use Rattle.rc_core.specs.Chain.{IsKnown, has_flag, states_at};
 ghost use Rattle.rc_core.specs.Chains.{IsChainContinuous, Shown, at_place, phase_at, upto};
 ghost use Rattle.rc_core.specs.Continuity.{EachOf, IsWithin, fill_statics, static_states, version_tombs};
 ghost use Rattle.rc_core.specs.SpotState.{through};
 ghost use Rattle.rc_core.specs.Steps.{IsCarriedIn, IsChain, MayPopulate, gap_filled, row_filled};
 ghost use Rattle.rc_core.specs.Version.{Behind, IsVersion, On, Spot, Version, end_position, state_at, static_state};
 ghost use Rattle.rc_memory.specs.Memory.{KeptChain, Memory, IsVersionAt, chain_at, on_chain, on_shown};
-ghost use Rattle.rc_populate.specs.Filling.{IsEntryOpened, chain_opened, given, on_newest_of};
+ghost use Rattle.rc_populate.specs.Filling.{IsEntryOpened, chain_opened, filled_statics, on_newest_of};
 
 use rc_core::laws::carrying::{
     a_filled_gap_is_carried, a_filled_row_is_carried, a_filled_static_row_keeps_what_is_carried,
@@ -83,7 +83,7 @@ pub fn a_filled_row_keeps_what_is_said()
 
 /// A static row that a snapshot fills is known to it, also where there is none. Each spot is seen as before, and so is the head; what was known is known, and what was carried is carried. A chain stays a chain, and continuous where what is filled is the source's static row.
 pub fn a_filled_static_row_keeps_what_is_said()
-    ensures known { (c : Shown) (j : ℕ) (statics : Option Row) → MayPopulate (at_place Head c) j → IsTrue (flagged Cache (static_states (upto (on_newest_of (fill_statics statics) c).versions j))) }
+    ensures known { (c : Shown) (j : ℕ) (statics : Option Row) → MayPopulate (at_place Head c) j → IsTrue (has_flag Cache (static_states (upto (on_newest_of (fill_statics statics) c).versions j))) }
     ensures elsewhere { (c : Shown) (j : ℕ) (statics : Option Row) (s : Spot) → MayPopulate (at_place Head c) j → states_at s (upto (on_newest_of (fill_statics statics) c).versions j) ≡ states_at s (upto c.versions j) }
     ensures head { (c : Shown) (j : ℕ) (statics : Option Row) → MayPopulate (at_place Head c) j → version_tombs (upto (on_newest_of (fill_statics statics) c).versions j) ≡ version_tombs (upto c.versions j) }
     ensures kept { (c : Shown) (j : ℕ) (statics : Option Row) (x : Pos) → MayPopulate (at_place Head c) j → IsKnown Cache (upto c.versions j) x → IsKnown Cache (upto (on_newest_of (fill_statics statics) c).versions j) x }
@@ -104,8 +104,8 @@ pub fn an_opened_chain_says_what_is_handed_in()
     ensures form { (p : Place) (pt : Option Tomb) (statics : Option Row) (phase : ℕ) → IsChain (at_place p (chain_opened pt statics phase).chain) }
     ensures chain { (below : ℕ → List Mutation) (p : Place) (pt : Option Tomb) (statics : Option Row) (phase : ℕ) → pt ≡ source_at_head (below phase) → joined_row (option_to_list statics) ≡ source_at_static (below phase) →
         IsChainContinuous below (at_place p (chain_opened pt statics phase).chain) }
-    ensures known { (pt : Option Tomb) (statics : Option Row) (phase : ℕ) → IsTrue (flagged Cache (static_states (chain_opened pt statics phase).chain.versions)) }
-    ensures unknown { (pt : Option Tomb) (statics : Option Row) (phase : ℕ) (s : Spot) → flagged Cache (states_at s (chain_opened pt statics phase).chain.versions) ≡ false }
+    ensures known { (pt : Option Tomb) (statics : Option Row) (phase : ℕ) → IsTrue (has_flag Cache (static_states (chain_opened pt statics phase).chain.versions)) }
+    ensures unknown { (pt : Option Tomb) (statics : Option Row) (phase : ℕ) (s : Spot) → has_flag Cache (states_at s (chain_opened pt statics phase).chain.versions) ≡ false }
 {
     an_opened_entry_is_continuous();
 }
@@ -116,7 +116,7 @@ pub fn what_the_source_says_may_be_filled()
         IsWithin (static_state v) (source_at_static (below (phase_at c.versions j)), None) }
     ensures clustered { (below : ℕ → List Mutation) (p : Place) (c : Shown) (j : ℕ) (v : Version) (x : Pos) → IsVersionAt c.versions j v → IsChainContinuous below (at_place p c) →
         IsWithin (state_at (On x) v) (source_at (below (phase_at c.versions j)) x) }
-    ensures given { (writes : List Mutation) → joined_row (option_to_list (given (source_at_static writes))) ≡ source_at_static writes }
+    ensures given { (writes : List Mutation) → joined_row (option_to_list (filled_statics (source_at_static writes))) ≡ source_at_static writes }
 {}
 
 /// A fill changes the newest version of one chain alone: what a snapshot of an older version sees is as it was, and so is each other chain.

@@ -32,7 +32,7 @@ pub fn row_need(key: &Key, row: &Row) -> usize
 /// How many bytes must be spare to fill a static row: for its object, 8,632 at most; none for a row in which nothing is written, which has no object.
 pub fn static_need(row: &Row) -> usize
     requires { RowFits row.now }
-    ensures value { result ≡ statics_bytes (filling.given row.now) }
+    ensures value { result ≡ statics_bytes (filling.filled_statics row.now) }
     ensures small { result ≤ 8632 }
 {
     if row.is_empty() { 0 } else { static_size(row) }

@@ -4,7 +4,7 @@ ghost use Rattle.lsa_pool.specs.Room.{spare_of};
 ghost use Rattle.rc_rowcode.specs.Spelling.{RowFits};
 ghost use Rattle.rc_version.specs.Versions.{statics_bytes};
 ghost use Rattle.rc_chain.specs.Lives.{IsSameButSlots};
-ghost use Rattle.rc_populate.specs.Filling.{IsEntryOpened, given};
+ghost use Rattle.rc_populate.specs.Filling.{IsEntryOpened, filled_statics};
 
 use crate::fills::put_static;
 use rc_chain::{ChainKind, Chains};
@@ -20,10 +20,10 @@ pub fn open_entry<const S: usize>(
 ) -> Result<u64, AllocError>
     requires fits { 88 ≤ S / 8 }
     requires row { RowFits head.now.statics }
-    requires small { statics_bytes (given head.now.statics) ≤ S / 8 }
-    requires spare { 152 + statics_bytes (given head.now.statics) ≤ spare_of S chains.old.region.usages }
-    ensures opened { IfOk result (λ id. IsEntryOpened id head.now.pt (given head.now.statics) phase chains.old chains.new) }
-    ensures spare { IfOk result (λ id. spare_of S chains.old.region.usages ≤ spare_of S chains.new.region.usages + (152 + statics_bytes (given head.now.statics))) }
+    requires small { statics_bytes (filled_statics head.now.statics) ≤ S / 8 }
+    requires spare { 152 + statics_bytes (filled_statics head.now.statics) ≤ spare_of S chains.old.region.usages }
+    ensures opened { IfOk result (λ id. IsEntryOpened id head.now.pt (filled_statics head.now.statics) phase chains.old chains.new) }
+    ensures spare { IfOk result (λ id. spare_of S chains.old.region.usages ≤ spare_of S chains.new.region.usages + (152 + statics_bytes (filled_statics head.now.statics))) }
     ensures err { OnErr result (IsSameButSlots chains.old chains.new) }
 {
     row_in_range(&head.statics);

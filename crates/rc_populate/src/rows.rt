@@ -10,7 +10,7 @@ ghost use Rattle.rc_core.specs.Steps.{on_newest, row_filled, row_joined};
 ghost use Rattle.rc_core.specs.Version.{On, state_at};
 ghost use Rattle.rc_memory.specs.Memory.{Member, IsMemberObject};
 ghost use Rattle.rc_memory.specs.Room.{FitTogether};
-ghost use Rattle.rc_memory.specs.Changes.{AtAlone, IsRenewed, IsVersionChanged, Nowhere, member};
+ghost use Rattle.rc_memory.specs.Changes.{AtAlone, IsRenewed, IsVersionChanged, Nowhere, member_at};
 ghost use Rattle.rc_populate.specs.Filling.{IsFilled, MayFill, OfPinned};
 ghost use Rattle.rc_populate.specs.Marked.{known_at};
 
@@ -50,8 +50,8 @@ pub fn fill_row<const S: usize>(
     requires source { OfPinned chains.old s.now.chain s.now.pin (λ k j v. IsWithin (state_at (On (row_pos key.now)) v) (row.now, tomb)) }
     requires fits { OfPinned chains.old s.now.chain s.now.pin (λ k j v. FitTogether S (on_newest (row_joined (row_pos key.now) row.now) k.chain.versions)) }
     requires spare { entry_size key.now row.now ≤ spare_of S chains.old.region.usages }
-    ensures filled { OfPinned chains.old s.now.chain s.now.pin (λ k j v. IsFilled s.now.chain (row_filled (row_pos key.now) row.now tomb) (AtAlone (member s.now.chain j (Some (row_pos key.now)))) chains.old chains.new) }
-    ensures listed { OfPinned chains.old s.now.chain s.now.pin (λ k j v. IsRenewed k.chain.kind (member s.now.chain j (Some (row_pos key.now))) chains.old.recency chains.new.recency) }
+    ensures filled { OfPinned chains.old s.now.chain s.now.pin (λ k j v. IsFilled s.now.chain (row_filled (row_pos key.now) row.now tomb) (AtAlone (member_at s.now.chain j (Some (row_pos key.now)))) chains.old chains.new) }
+    ensures listed { OfPinned chains.old s.now.chain s.now.pin (λ k j v. IsRenewed k.chain.kind (member_at s.now.chain j (Some (row_pos key.now))) chains.old.recency chains.new.recency) }
     ensures spare { spare_of S chains.old.region.usages ≤ spare_of S chains.new.region.usages + entry_size key.now row.now }
 {
     let before = chains.region().live();

@@ -23,10 +23,10 @@ fragment_line head tomb (frag.Change from next) = None
 fragment_line head tomb frag.End = None
 
 -- the lines of fragments, one after another
-abbrev pub compacted : Option Tomb → Option Tomb → List Frag → List OutLine
-compacted head tomb [] = []
-compacted head tomb (f ∷ fs) = cons_option (fragment_line head tomb f) (compacted head (tomb_after tomb f) fs)
+abbrev pub compacted_lines : Option Tomb → Option Tomb → List Frag → List OutLine
+compacted_lines head tomb [] = []
+compacted_lines head tomb (f ∷ fs) = cons_option (fragment_line head tomb f) (compacted_lines head (tomb_after tomb f) fs)
 
 -- the static line first
 abbrev pub compacted_all : Head → List Frag → List OutLine
-compacted_all head fragments = option_to_list (static_line head.pt (head.statics ∷ [])) ++ compacted head.pt None fragments
+compacted_all head fragments = option_to_list (static_line head.pt (head.statics ∷ [])) ++ compacted_lines head.pt None fragments

@@ -11,7 +11,7 @@ ghost use Rattle.rc_query.specs.laws.Answers.{own_line, row_line};
 
 use crate::lines::{Lines, OutLine};
 use crate::shown::Shown;
-use rc_cell::{Cell, Row, Tomb, Value};
+use rc_cell::{Cell, Row, Tomb, Value, is_above};
 use rc_mutation::{Mutation, Rows, Statics, greater_tomb};
 use rc_position::{Key, Slice, end_pos, start_pos};
 use rc_ranges::Ranges;
@@ -186,15 +186,5 @@ fn marker_survives(marker: Option<i64>, tomb: Option<Tomb>) -> bool
     match marker {
         Some(ts) => is_above(tomb, ts),
         None => false,
-    }
-}
-
-// Whether a write of this timestamp survives the tombstone, as every write does where there is none.
-fn is_above(tomb: Option<Tomb>, ts: i64) -> bool
-    ensures { result ≡ survives tomb ts }
-{
-    match tomb {
-        Some(tomb) => tomb.ts < ts,
-        None => true,
     }
 }

@@ -12,7 +12,7 @@ use Rattle.rc_cell.specs.Greatest.{greater}
 use Rattle.rc_cell.specs.laws.Beats.{tomb_cmp-IsAntisymmetric}
 use Rattle.rc_ranges.specs.declared.pieces.Piece.{Piece}
 use Rattle.rc_ranges.specs.Cover.{cover, MayFollow, IsCanonical}
-use Rattle.rc_ranges.specs.calls.Sweep.{lt, goes_on, extended}
+use Rattle.rc_ranges.specs.calls.Sweep.{lt, goes_on, extended_pieces}
 use Rattle.rc_ranges.specs.laws.Order.{gt-lt, before-lt, lt-before, lt-irrefl, lt-asym, lt-trans, le-trans}
 use Rattle.rc_ranges.specs.laws.Greater.{greater-none, greater-assoc}
 use Rattle.rc_ranges.specs.laws.Covering.{piece_at, piece_at-inside, piece_at-before, piece_at-behind, cover-none, cover-cons}
@@ -92,7 +92,7 @@ cut p q e before_p before_q x =
 cover-one : (p : Piece) (x : Pos) → cover (p ∷ []) x ≡ piece_at p x
 cover-one p x = cover-cons p [] x ∙ ap (greater tomb_cmp (piece_at p x)) (cover-none x) ∙ greater-none (piece_at p x)
 
-pub cover-extended : (ps : List Piece) (q : Piece) → IsCanonical ps → IsBefore q.from q.to → (x : Pos) → cover (extended ps q) x ≡ greater tomb_cmp (cover ps x) (piece_at q x)
+pub cover-extended : (ps : List Piece) (q : Piece) → IsCanonical ps → IsBefore q.from q.to → (x : Pos) → cover (extended_pieces ps q) x ≡ greater tomb_cmp (cover ps x) (piece_at q x)
 cover-extended [] q c before x = cover-one q x ∙ sym (ap (λ s. greater tomb_cmp s (piece_at q x)) (cover-none x))
 cover-extended (p ∷ []) q c before x =
     elim (goes_on p q) as (λ b. goes_on p q ≡ b → cover (cond b (longer p q ∷ []) (p ∷ q ∷ [])) x ≡ greater tomb_cmp (cover (p ∷ []) x) (piece_at q x)) [
@@ -100,18 +100,18 @@ cover-extended (p ∷ []) q c before x =
       | false ↦ λ e. cover-cons p (q ∷ []) x ∙ (λ i. greater tomb_cmp (sym (cover-one p x) i) (cover-one q x i))
     ] refl
 cover-extended (p ∷ r ∷ ps) q c before x =
-    cover-cons p (extended (r ∷ ps) q) x
+    cover-cons p (extended_pieces (r ∷ ps) q) x
     ∙ ap (greater tomb_cmp (piece_at p x)) (cover-extended (r ∷ ps) q c.2 before x)
     ∙ sym (greater-assoc (piece_at p x) (cover (r ∷ ps) x) (piece_at q x))
     ∙ sym (ap (λ s. greater tomb_cmp s (piece_at q x)) (cover-cons p (r ∷ ps) x))
 
 -- ---- it is canonical
 
-MayFollow-extended : (p r : Piece) (ps : List Piece) (q : Piece) → MayFollow p (r ∷ ps) → MayFollow p (extended (r ∷ ps) q)
+MayFollow-extended : (p r : Piece) (ps : List Piece) (q : Piece) → MayFollow p (r ∷ ps) → MayFollow p (extended_pieces (r ∷ ps) q)
 MayFollow-extended p r [] q h = elim (goes_on r q) as (λ b. MayFollow p (cond b (longer r q ∷ []) (r ∷ q ∷ []))) [ true ↦ h | false ↦ h ]
 MayFollow-extended p r (s ∷ ps) q h = h
 
-pub IsCanonical-extended : (ps : List Piece) (q : Piece) → IsCanonical ps → EndBy ps q.from → IsBefore q.from q.to → IsCanonical (extended ps q)
+pub IsCanonical-extended : (ps : List Piece) (q : Piece) → IsCanonical ps → EndBy ps q.from → IsBefore q.from q.to → IsCanonical (extended_pieces ps q)
 IsCanonical-extended [] q c ends before = (before, tt, tt)
 IsCanonical-extended (p ∷ []) q c ends before =
     elim (goes_on p q) as (λ b. goes_on p q ≡ b → IsCanonical (cond b (longer p q ∷ []) (p ∷ q ∷ []))) [
@@ -124,7 +124,7 @@ IsCanonical-extended (p ∷ r ∷ ps) q c ends before = (c.0, MayFollow-extended
 
 -- ---- it ends where the new piece does
 
-pub EndBy-extended : (ps : List Piece) (q : Piece) → EndBy ps q.from → IsBefore q.from q.to → EndBy (extended ps q) q.to
+pub EndBy-extended : (ps : List Piece) (q : Piece) → EndBy ps q.from → IsBefore q.from q.to → EndBy (extended_pieces ps q) q.to
 EndBy-extended [] q ends before = (lt-irrefl q.to, tt)
 EndBy-extended (p ∷ []) q ends before =
     elim (goes_on p q) as (λ b. EndBy (cond b (longer p q ∷ []) (p ∷ q ∷ [])) q.to) [
@@ -136,7 +136,7 @@ EndBy-extended (p ∷ r ∷ ps) q ends before =
 
 -- ---- the last piece taken off and put back
 
-pub extended-last : (ps : List Piece) (p q : Piece) → extended (ps ++ p ∷ []) q ≡ ps ++ cond (goes_on p q) (longer p q ∷ []) (p ∷ q ∷ [])
+pub extended-last : (ps : List Piece) (p q : Piece) → extended_pieces (ps ++ p ∷ []) q ≡ ps ++ cond (goes_on p q) (longer p q ∷ []) (p ∷ q ∷ [])
 extended-last [] p q = refl
 extended-last (r ∷ []) p q = refl
 extended-last (r ∷ s ∷ ps) p q = ap (λ t. r ∷ t) (extended-last (s ∷ ps) p q)

@@ -2,27 +2,14 @@
 
 ghost use Rattle.std.specs.Prelude.{◌≡◌, [], ◌∷◌, ◌++◌, IfOk, OnOk};
 ghost use Rattle.std.specs.Option.{option_copied};
-ghost use Rattle.rc_cell.specs.Orders.{tomb_cmp};
-ghost use Rattle.rc_cell.specs.Greatest.{greater};
 ghost use Rattle.rc_position.specs.Position.{row_pos};
 ghost use Rattle.rc_ranges.specs.Cover.{IsCanonical, IsRangeJoinOf};
-ghost use Rattle.rc_ranges.specs.calls.Sweep.{sweep_tomb, next_bound, rest_from, earlier, goes_on, extended, extended_by};
+ghost use Rattle.rc_ranges.specs.calls.Sweep.{sweep_tomb, next_bound, rest_from, earlier, goes_on, extended_pieces, extended_by};
 
 use crate::pieces::Piece;
-use rc_cell::Tomb;
+use rc_cell::{Tomb, greater_of};
 use rc_position::{Key, Pos, Weight};
 use std::alloc::{AllocError, Global};
-
-// The greater of two tombstones, where there are any.
-fn greater_of(ours: Option<Tomb>, theirs: Option<Tomb>) -> Option<Tomb>
-    ensures { result ≡ greater tomb_cmp ours theirs }
-{
-    match (ours, theirs) {
-        (Some(ours), Some(theirs)) => Some(if ours < theirs { theirs } else { ours }),
-        (Some(ours), None) => Some(ours),
-        (None, theirs) => theirs,
-    }
-}
 
 // The tombstone from the mark up to the next bound.
 #[tactic(auto, unfolding(crate::specs::calls::Sweep::lt))]
@@ -113,7 +100,7 @@ fn continues(last: &Piece, next: &Piece) -> bool
 
 // Puts two pieces behind the others, as one if the second continues the first.
 fn push_both(made: &mut Vec<Piece>, last: Piece, next: Piece) -> Result<(), AllocError>
-    ensures { OnOk result (made.new.items ≡ made.old.items ++ extended (last ∷ []) next) }
+    ensures { OnOk result (made.new.items ≡ made.old.items ++ extended_pieces (last ∷ []) next) }
 {
     if continues(&last, &next) {
         made.push(Piece {
@@ -130,7 +117,7 @@ fn push_both(made: &mut Vec<Piece>, last: Piece, next: Piece) -> Result<(), Allo
 
 // Puts a piece behind the others, or makes the last one longer if the new one continues it.
 fn extend(made: &mut Vec<Piece>, next: Piece) -> Result<(), AllocError>
-    ensures { OnOk result (made.new.items ≡ extended made.old.items next) }
+    ensures { OnOk result (made.new.items ≡ extended_pieces made.old.items next) }
 {
     match made.pop() {
         None => Ok(made.push(next)?),

@@ -5,7 +5,7 @@ use Rattle.std.proofs.lemmas.Bool.{lt-ltb, ltb-true}
 use Rattle.std.proofs.lemmas.List.{append_cancel_left, append-nil, drop-append-le, take-append-le}
 use Rattle.std.specs.Option.{option_to_list}
 use Rattle.rc_query.specs.declared.lines.OutLine.{OutLine}
-use Rattle.rc_query.specs.Compacting.{compacted}
+use Rattle.rc_query.specs.Compacting.{compacted_lines}
 use Rattle.rc_reader.specs.Left.{Remains, lines_before, until}
 use Rattle.rc_reader.specs.calls.Making.{AreEnough}
 use Rattle.rc_reader.specs.declared.work.Work.{Work}
@@ -39,7 +39,7 @@ left-list n made others lines e (inr s) =
 -- ---- of works
 
 abbrev others_of : (P : Seen) (v : Work) (lines : Lines) → Remains P v lines → Lines
-others_of P v lines h = compacted v.compactor.0.pt v.compactor.1 (until v.to (option_to_list v.taken ++ h.stream.left))
+others_of P v lines h = compacted_lines v.compactor.0.pt v.compactor.1 (until v.to (option_to_list v.taken ++ h.stream.left))
 
 made-is : (n : ℕ) (P : Seen) (w v : Work) → AreEnough n (Remains P w) v.lines.items → (lines : Lines) → Remains P w lines → IsMade n v.lines.items lines
 made-is n P w v (inl t) lines h = inl t
@@ -57,5 +57,5 @@ module _ (n : ℕ) (P Q : Seen) (w v : Work) (on : (lines : Lines) → Remains P
     stream = k.stream;
     stands = k.stands;
     are = left-list n v.lines.items (others_of Q v lines k) lines k.are (made-is n P w v enough lines h)
-        ∙ sym (λ i. l i ++ compacted (c i).0.pt (c i).1 (until (to i) (option_to_list (t i) ++ k.stream.left)));
+        ∙ sym (λ i. l i ++ compacted_lines (c i).0.pt (c i).1 (until (to i) (option_to_list (t i) ++ k.stream.left)));
   }

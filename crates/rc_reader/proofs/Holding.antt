@@ -7,11 +7,11 @@ use Rattle.rc_position.specs.declared.slices.Slice.{Slice}
 use Rattle.rc_mutation.specs.declared.fragments.Frag.{Frag}
 use Rattle.rc_mutation.specs.declared.fragments.Head.{Head}
 use Rattle.rc_query.specs.declared.lines.OutLine.{OutLine}
-use Rattle.rc_query.specs.Compacting.{compacted, compacted_all}
+use Rattle.rc_query.specs.Compacting.{compacted_all, compacted_lines}
 use Rattle.rc_stream.specs.Did.{ReachesEnd}
 use Rattle.rc_stream.specs.Places.{Reaches}
 use Rattle.rc_stream.specs.Showing.{ShowsOne}
-use Rattle.rc_stream.specs.Stream.{Stream, first_upto, rest, sought, took}
+use Rattle.rc_stream.specs.Stream.{Stream, first_upto, rest, sought_stream, took}
 use Rattle.rc_reader.specs.Left.{Remains, LeavesOne, lines_before, slice_lines, until}
 use Rattle.rc_reader.specs.Steps.{GoesNoFurther}
 use Rattle.rc_reader.specs.declared.work.Work.{Work}
@@ -68,8 +68,8 @@ took-left (Some f) s = refl
 
 got-lines : (w v : Work) (got : Option Frag) → HasGot w v got → (x : Pos) (s : Stream) → got ≡ first_upto w.to s.left → lines_before x w s.left ≡ lines_before x v (took got s).left
 got-lines w v got t x s first =
-    (λ i. w.lines.items ++ compacted w.compactor.0.pt w.compactor.1 (until x (option_to_list (t.idle i) ++ split w.to got s.left first i)))
-    ∙ sym (λ i. t.lines i ++ compacted (t.compactor i).0.pt (t.compactor i).1 (until x (option_to_list (t.taken i) ++ took-left got s i)))
+    (λ i. w.lines.items ++ compacted_lines w.compactor.0.pt w.compactor.1 (until x (option_to_list (t.idle i) ++ split w.to got s.left first i)))
+    ∙ sym (λ i. t.lines i ++ compacted_lines (t.compactor i).0.pt (t.compactor i).1 (until x (option_to_list (t.taken i) ++ took-left got s i)))
 
 module _ (P Q : Seen) (w v : Work) (got : Option Frag) (t : HasGot w v got) (first : (s : Stream) → P s → got ≡ first_upto w.to s.left) (on : (s : Stream) → P s → Q (took got s)) where
   pub left-got : (lines : List OutLine) → Remains P w lines → Remains Q v lines
@@ -92,8 +92,8 @@ pub ended : (P : Seen) (w v : Work) (got : Option Frag) → HasGot w v got → i
 ended P w v got t none first lines h =
     let nothing : got ≡ None = none-there got (ap is_some (sym t.taken) ∙ none) in
     h.are
-    ∙ (λ i. w.lines.items ++ compacted w.compactor.0.pt w.compactor.1 (until w.to (option_to_list (t.idle i) ++ h.stream.left)))
-    ∙ ap (λ fs. w.lines.items ++ compacted w.compactor.0.pt w.compactor.1 fs) (none-left w.to h.stream.left (sym nothing ∙ first h.stream h.stands))
+    ∙ (λ i. w.lines.items ++ compacted_lines w.compactor.0.pt w.compactor.1 (until w.to (option_to_list (t.idle i) ++ h.stream.left)))
+    ∙ ap (λ fs. w.lines.items ++ compacted_lines w.compactor.0.pt w.compactor.1 fs) (none-left w.to h.stream.left (sym nothing ∙ first h.stream h.stands))
     ∙ append-nil w.lines.items
     ∙ sym t.lines
 
@@ -116,7 +116,7 @@ reaches-end P w y n few (inr h) idle =
       h.0,
       h.1,
       near w.to y w.compactor.0.pt w.compactor.1 w.lines.items n h.0.left few
-          (subst (λ t. n < length (w.lines.items ++ compacted w.compactor.0.pt w.compactor.1 (until y (option_to_list t ++ h.0.left)))) idle h.2),
+          (subst (λ t. n < length (w.lines.items ++ compacted_lines w.compactor.0.pt w.compactor.1 (until y (option_to_list t ++ h.0.left)))) idle h.2),
     )
 
 -- ---- the beginning
@@ -126,16 +126,16 @@ pub record IsBegun (head : Head) (end : Pos) (w : Work) : Type 0 where
   pub lines : (fs : List Frag) → lines_before end w fs ≡ compacted_all head (until end fs)
   pub to : w.to ≡ end
 
-begun-lines : (head : Head) (slice : Slice) (w : Work) → IsBegun head slice.to w → (s : Stream) → head ≡ s.head → slice_lines slice s ≡ lines_before w.to w (sought slice.from s).left
+begun-lines : (head : Head) (slice : Slice) (w : Work) → IsBegun head slice.to w → (s : Stream) → head ≡ s.head → slice_lines slice s ≡ lines_before w.to w (sought_stream slice.from s).left
 begun-lines head slice w b s e =
-    ap (λ (h : Head). compacted_all h (until slice.to (sought slice.from s).left)) (sym e)
-    ∙ sym (b.lines (sought slice.from s).left)
-    ∙ ap (λ x. lines_before x w (sought slice.from s).left) (sym b.to)
+    ap (λ (h : Head). compacted_all h (until slice.to (sought_stream slice.from s).left)) (sym e)
+    ∙ sym (b.lines (sought_stream slice.from s).left)
+    ∙ ap (λ x. lines_before x w (sought_stream slice.from s).left) (sym b.to)
 
-pub left-begun : (P : Seen) (head : Head) (slice : Slice) (w : Work) → IsBegun head slice.to w → (s : Stream) → head ≡ s.head → P (sought slice.from s) → Remains P w (slice_lines slice s)
-left-begun P head slice w b s e p = record { stream = sought slice.from s; stands = p; are = begun-lines head slice w b s e }
+pub left-begun : (P : Seen) (head : Head) (slice : Slice) (w : Work) → IsBegun head slice.to w → (s : Stream) → head ≡ s.head → P (sought_stream slice.from s) → Remains P w (slice_lines slice s)
+left-begun P head slice w b s e p = record { stream = sought_stream slice.from s; stands = p; are = begun-lines head slice w b s e }
 
-pub shown-begun : (might P Q : Seen) (head : Head) (slice : Slice) (w : Work) → IsBegun head slice.to w → ((s : Stream) → P s → Q (sought slice.from s)) → ShowsOne might P head → LeavesOne might slice (Remains Q w)
+pub shown-begun : (might P Q : Seen) (head : Head) (slice : Slice) (w : Work) → IsBegun head slice.to w → ((s : Stream) → P s → Q (sought_stream slice.from s)) → ShowsOne might P head → LeavesOne might slice (Remains Q w)
 shown-begun might P Q head slice w b on one = record {
   stream = one.stream;
   possible = one.possible;

@@ -13,7 +13,7 @@ use Rattle.rc_mutation.specs.declared.fragments.Frag.{Frag}
 use Rattle.rc_mutation.specs.declared.fragments.Frag.TheVariants as frag
 use Rattle.rc_mutation.specs.Fragments.{tomb_after}
 use Rattle.rc_query.specs.declared.lines.OutLine.{OutLine}
-use Rattle.rc_query.specs.Compacting.{compacted, fragment_line}
+use Rattle.rc_query.specs.Compacting.{compacted_lines, fragment_line}
 use Rattle.rc_stream.specs.Merging.{place_of}
 use Rattle.rc_stream.specs.Places.{Reaches, bound_of}
 use Rattle.rc_stream.specs.Stream.{first_upto, is_upto, rest}
@@ -90,10 +90,10 @@ nearer x y f fs r =
     ] refl
 
 -- where more lines than are made are left before y, the first fragment stands before y
-pub near : (x y : Pos) (head tomb : Option Tomb) (made : List OutLine) (n : ℕ) (fs : List Frag) → length made ≤ n → n < length (made ++ compacted head tomb (until y fs)) → Reaches (bound_of x fs) y
+pub near : (x y : Pos) (head tomb : Option Tomb) (made : List OutLine) (n : ℕ) (fs : List Frag) → length made ≤ n → n < length (made ++ compacted_lines head tomb (until y fs)) → Reaches (bound_of x fs) y
 near x y head tomb made n [] few more = absurd (omega (arith, few, more, ap length (append-nil made)))
 near x y head tomb made n (f ∷ fs) few more =
-    elim (is_short_of y f) as (λ b. is_short_of y f ≡ b → n < length (made ++ compacted head tomb (cond b (f ∷ until y fs) [])) → Reaches (bound_of x (f ∷ fs)) y) [
+    elim (is_short_of y f) as (λ b. is_short_of y f ≡ b → n < length (made ++ compacted_lines head tomb (cond b (f ∷ until y fs) [])) → Reaches (bound_of x (f ∷ fs)) y) [
       | true ↦ λ s _. nearer x y f fs (short-reaches y f s)
       | false ↦ λ _ m. absurd (omega (arith, few, m, ap length (append-nil made)))
     ] refl more
@@ -105,11 +105,11 @@ cons_one None xs = refl
 cons_one (Some x) xs = refl
 
 put-list : (x : Pos) (head tomb : Option Tomb) (made : List OutLine) (f : Frag) (fs : List Frag) → is_short_of x f ≡ true →
-    (made ++ option_to_list (fragment_line head tomb f)) ++ compacted head (tomb_after tomb f) (until x fs) ≡ made ++ compacted head tomb (until x (f ∷ fs))
+    (made ++ option_to_list (fragment_line head tomb f)) ++ compacted_lines head (tomb_after tomb f) (until x fs) ≡ made ++ compacted_lines head tomb (until x (f ∷ fs))
 put-list x head tomb made f fs s =
-    append_assoc made (option_to_list (fragment_line head tomb f)) (compacted head (tomb_after tomb f) (until x fs))
-    ∙ ap (λ ls. made ++ ls) (cons_one (fragment_line head tomb f) (compacted head (tomb_after tomb f) (until x fs)))
-    ∙ ap (λ b. made ++ compacted head tomb (cond b (f ∷ until x fs) [])) (sym s)
+    append_assoc made (option_to_list (fragment_line head tomb f)) (compacted_lines head (tomb_after tomb f) (until x fs))
+    ∙ ap (λ ls. made ++ ls) (cons_one (fragment_line head tomb f) (compacted_lines head (tomb_after tomb f) (until x fs)))
+    ∙ ap (λ b. made ++ compacted_lines head tomb (cond b (f ∷ until x fs) [])) (sym s)
 
 -- the work with the line of what was taken
 pub record HasPut (w v : Work) (f : Frag) : Type 0 where
@@ -120,15 +120,15 @@ pub record HasPut (w v : Work) (f : Frag) : Type 0 where
 
 pub put-lines : (w v : Work) (f : Frag) → HasPut w v f → (x : Pos) (fs : List Frag) → is_short_of x f ≡ true → lines_before x v fs ≡ lines_before x w fs
 put-lines w v f p x fs s =
-    (λ i. p.lines i ++ compacted (p.compactor i).0.pt (p.compactor i).1 (until x (option_to_list (p.idle i) ++ fs)))
+    (λ i. p.lines i ++ compacted_lines (p.compactor i).0.pt (p.compactor i).1 (until x (option_to_list (p.idle i) ++ fs)))
     ∙ put-list x w.compactor.0.pt w.compactor.1 w.lines.items f fs s
-    ∙ sym (λ i. w.lines.items ++ compacted w.compactor.0.pt w.compactor.1 (until x (option_to_list (p.taken i) ++ fs)))
+    ∙ sym (λ i. w.lines.items ++ compacted_lines w.compactor.0.pt w.compactor.1 (until x (option_to_list (p.taken i) ++ fs)))
 
 -- where it does not stand before the position, nothing is left but what is made
 pub put-ended : (w : Work) (f : Frag) → w.taken ≡ Some f → (x : Pos) (fs : List Frag) → is_short_of x f ≡ false → lines_before x w fs ≡ w.lines.items
 put-ended w f t x fs s =
-    (λ i. w.lines.items ++ compacted w.compactor.0.pt w.compactor.1 (until x (option_to_list (t i) ++ fs)))
-    ∙ ap (λ b. w.lines.items ++ compacted w.compactor.0.pt w.compactor.1 (cond b (f ∷ until x fs) [])) s
+    (λ i. w.lines.items ++ compacted_lines w.compactor.0.pt w.compactor.1 (until x (option_to_list (t i) ++ fs)))
+    ∙ ap (λ b. w.lines.items ++ compacted_lines w.compactor.0.pt w.compactor.1 (cond b (f ∷ until x fs) [])) s
     ∙ append-nil w.lines.items
 
 pub put-before : (w v : Work) (f : Frag) → HasPut w v f → (x : Pos) (fs : List Frag) → length w.lines.items < length (lines_before x w fs) → lines_before x v fs ≡ lines_before x w fs
@@ -140,7 +140,7 @@ put-before w v f p x fs more =
 
 -- the same is left where nothing that counts is changed
 pub same-lines : (w v : Work) → v.taken ≡ w.taken → v.compactor ≡ w.compactor → v.lines.items ≡ w.lines.items → (x : Pos) (fs : List Frag) → lines_before x v fs ≡ lines_before x w fs
-same-lines w v t c l x fs = λ i. l i ++ compacted (c i).0.pt (c i).1 (until x (option_to_list (t i) ++ fs))
+same-lines w v t c l x fs = λ i. l i ++ compacted_lines (c i).0.pt (c i).1 (until x (option_to_list (t i) ++ fs))
 
 -- the compactor as it was, where a line could not be kept
 pub kept : (w : Work) (f : Frag) (line : Option OutLine) (l : OutLine) → line ≡ fragment_line w.compactor.0.pt w.compactor.1 f → line ≡ Some l → (w.compactor.0, tomb_after w.compactor.1 f) ≡ w.compactor

@@ -28,10 +28,10 @@ use Rattle.rc_query.specs.declared.lines.OutLine.{OutLine}
 use Rattle.rc_query.specs.Answer.{static_line}
 use Rattle.rc_query.specs.laws.Answers.{row_line}
 use Rattle.rc_stream.specs.Merging.{IsOrdered, StandsBefore, place_of, rows_here}
-use Rattle.rc_stream.specs.Stream.{Stream, force, is_passed, row_at, says, sought}
+use Rattle.rc_stream.specs.Stream.{Stream, force, is_passed, row_at, says, sought_stream}
 use Rattle.rc_stream.specs.laws.Ordered.{Lt, passed-row}
 use Rattle.std.specs.Option.{option_to_list}
-use Rattle.rc_query.specs.Compacting.{compacted}
+use Rattle.rc_query.specs.Compacting.{compacted_lines}
 use Rattle.rc_reader.specs.Left.{slice_lines, until}
 use Rattle.rc_reader.proofs.Along.{inner_line, inner_lines}
 use Rattle.rc_reader.proofs.Slices.{row-lines}

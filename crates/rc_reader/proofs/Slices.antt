@@ -23,11 +23,11 @@ use Rattle.rc_mutation.specs.Slices.{in_slice}
 use Rattle.rc_mutation.specs.Source.{IsMutation}
 use Rattle.rc_query.specs.declared.lines.OutLine.{OutLine}
 use Rattle.rc_query.specs.Answer.{answer, static_line}
-use Rattle.rc_query.specs.Compacting.{compacted, compacted_all, fragment_line}
+use Rattle.rc_query.specs.Compacting.{compacted_all, compacted_lines, fragment_line}
 use Rattle.rc_query.specs.laws.Answers.{answer-one, own_line, row_line}
 use Rattle.rc_stream.specs.Merging.{IsInner, IsOrdered, StandsBefore, place_of}
 use Rattle.rc_stream.specs.Showing.{IsFromStart}
-use Rattle.rc_stream.specs.Stream.{Stream, force, is_passed, onward, opening, sought, stream_of}
+use Rattle.rc_stream.specs.Stream.{Stream, force, is_passed, onward, opening, sought_stream, stream_of}
 use Rattle.rc_stream.specs.laws.Ordered.{not_passed}
 use Rattle.rc_stream.specs.laws.Sought.{onward-ordered}
 use Rattle.rc_reader.specs.Left.{is_short_of, slice_lines, until}
@@ -129,10 +129,10 @@ module _ (slice : Slice) (head : Option Tomb) where
   inside-line tomb (frag.Change from next) h k = refl
   inside-line tomb frag.End h k = refl
 
-  inside-lines : (tomb : Option Tomb) (fs : List Frag) → IsOrdered fs → StandsBefore (slice.from, 0) fs → compacted head tomb (until slice.to fs) ≡ inner_lines slice head tomb fs
+  inside-lines : (tomb : Option Tomb) (fs : List Frag) → IsOrdered fs → StandsBefore (slice.from, 0) fs → compacted_lines head tomb (until slice.to fs) ≡ inner_lines slice head tomb fs
   inside-lines tomb [] o b = refl
   inside-lines tomb (f ∷ fs) o b =
-      elim (is_short_of slice.to f) as (λ s. is_short_of slice.to f ≡ s → compacted head tomb (cond s (f ∷ until slice.to fs) []) ≡ inner_lines slice head tomb (f ∷ fs)) [
+      elim (is_short_of slice.to f) as (λ s. is_short_of slice.to f ≡ s → compacted_lines head tomb (cond s (f ∷ until slice.to fs) []) ≡ inner_lines slice head tomb (f ∷ fs)) [
         | true ↦ λ k. (λ i. cons_option (inside-line tomb f (not_passed slice.from f o.0 b.0) k i) (inside-lines (tomb_after tomb f) fs o.2 b.1 i))
         | false ↦ λ k. sym (outside-lines tomb (f ∷ fs) (k, outside-later slice.to f fs o.0 k o.1 o.2))
       ] refl
@@ -141,16 +141,16 @@ module _ (slice : Slice) (head : Option Tomb) where
   empty-lines : is_lt (pos_cmp slice.from slice.to) ≡ false → (tomb : Option Tomb) (fs : List Frag) → IsOrdered fs → StandsBefore (slice.from, 0) fs → inner_lines slice head tomb fs ≡ []
   empty-lines h tomb fs o b = outside-lines tomb fs (outside-later slice.to (frag.Change slice.from None) fs tt h b o)
 
-  sought-lines : (tomb : Option Tomb) (fs : List Frag) → IsOrdered fs → StandsBefore (slice.from, 0) fs → compacted head None (until slice.to (opening slice.from tomb ++ fs)) ≡ inner_lines slice head tomb fs
+  sought-lines : (tomb : Option Tomb) (fs : List Frag) → IsOrdered fs → StandsBefore (slice.from, 0) fs → compacted_lines head None (until slice.to (opening slice.from tomb ++ fs)) ≡ inner_lines slice head tomb fs
   sought-lines None fs o b = inside-lines None fs o b
   sought-lines (Some t) fs o b =
-      elim (is_lt (pos_cmp slice.from slice.to)) as (λ s. is_lt (pos_cmp slice.from slice.to) ≡ s → compacted head None (cond s (frag.Change slice.from (Some t) ∷ until slice.to fs) []) ≡ inner_lines slice head (Some t) fs) [
+      elim (is_lt (pos_cmp slice.from slice.to)) as (λ s. is_lt (pos_cmp slice.from slice.to) ≡ s → compacted_lines head None (cond s (frag.Change slice.from (Some t) ∷ until slice.to fs) []) ≡ inner_lines slice head (Some t) fs) [
         | true ↦ λ _. inside-lines (Some t) fs o b
         | false ↦ λ h. sym (empty-lines h (Some t) fs o b)
       ] refl
 
 -- the row lines of an ordered stream in a slice
-pub row-lines : (slice : Slice) (s : Stream) → IsOrdered s.left → compacted s.head.pt None (until slice.to (sought slice.from s).left) ≡ inner_lines slice s.head.pt s.tomb s.left
+pub row-lines : (slice : Slice) (s : Stream) → IsOrdered s.left → compacted_lines s.head.pt None (until slice.to (sought_stream slice.from s).left) ≡ inner_lines slice s.head.pt s.tomb s.left
 row-lines slice s o =
     let h = onward-ordered slice.from s.left o in
     sought-lines slice s.head.pt (force slice.from s.tomb s.left) (onward slice.from s.left) h.0 h.1 ∙ onward-lines slice s.head.pt s.tomb s.left

@@ -12,10 +12,10 @@ use Rattle.rc_position.specs.Position.{pos_cmp, row_pos}
 use Rattle.rc_mutation.specs.declared.fragments.Frag.{Frag}
 use Rattle.rc_mutation.specs.declared.fragments.Frag.TheVariants as frag
 use Rattle.rc_query.specs.declared.lines.OutLine.{OutLine}
-use Rattle.rc_query.specs.Compacting.{compacted, compacted_all}
+use Rattle.rc_query.specs.Compacting.{compacted_all, compacted_lines}
 use Rattle.rc_stream.specs.declared.streams.StreamErr.{StreamErr}
 use Rattle.rc_stream.specs.Showing.{IsFromStart}
-use Rattle.rc_stream.specs.Stream.{Stream, sought}
+use Rattle.rc_stream.specs.Stream.{Stream, sought_stream}
 use Rattle.rc_reader.specs.declared.readers.Reader.{Reader}
 use Rattle.rc_reader.specs.declared.work.Work.{Work}
 
@@ -35,12 +35,12 @@ until x (f ∷ fs) = cond (is_short_of x f) (f ∷ until x fs) []
 -- the lines of a stream in a slice: the static line, whatever the slice; then those of its rows from where the slice begins to where it ends,
 -- under the range tombstones in force
 abbrev pub slice_lines : Slice → Stream → List OutLine
-slice_lines slice s = compacted_all s.head (until slice.to (sought slice.from s).left)
+slice_lines slice s = compacted_all s.head (until slice.to (sought_stream slice.from s).left)
 
 -- the lines that are left of a reader's work before x, where its stream has these fragments left: those that are made, then those of what
 -- is taken and of what is left
 abbrev pub lines_before : Pos → Work → List Frag → List OutLine
-lines_before x work fs = work.lines.items ++ compacted work.compactor.0.pt work.compactor.1 (until x (option_to_list work.taken ++ fs))
+lines_before x work fs = work.lines.items ++ compacted_lines work.compactor.0.pt work.compactor.1 (until x (option_to_list work.taken ++ fs))
 
 -- a stream stands for one of these, of which with the work these lines are left before the end of the slice
 pub record Remains (seen : Stream → Type 0) (work : Work) (lines : List OutLine) : Type 0 where

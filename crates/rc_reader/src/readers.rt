@@ -5,7 +5,7 @@ ghost use Rattle.rc_outside.specs.Files.{HoldsSameFiles};
 ghost use Rattle.rc_position.specs.declared.positions.Pos.{Pos};
 ghost use Rattle.rc_query.specs.declared.lines.OutLine.{OutLine};
 ghost use Rattle.rc_stream.specs.Causes.{Caused};
-ghost use Rattle.rc_stream.specs.Did.{InTurn, IsQuiet, ReachesEnd, Spends, answered, Call.OfNext};
+ghost use Rattle.rc_stream.specs.Did.{InTurn, IsQuiet, ReachesEnd, Spends, has_answer, Call.OfNext};
 ghost use Rattle.rc_stream.specs.Showing.{Blames};
 ghost use Rattle.rc_stream.specs.Stream.{Stream};
 ghost use Rattle.rc_reader.specs.Left.{AreLeft, Remains, LeavesOne, left_after, slice_lines};
@@ -52,7 +52,7 @@ impl<S> Reader<S> {
         ensures spends { (left : S → ℕ) → Spends S.did left W.asks → MatchResult result (λ reader. W.asks store.new + left reader.stream ≤ W.asks store.old + left stream) (λ _. W.asks store.new ≤ W.asks store.old + left stream) }
         ensures quiet { (settled : S → Bool) → IsQuiet S.did settled W.asks → IfOk result (λ reader. IsTrue (settled reader.stream)) }
         ensures moves { MovedOn S.moves home.old store.old home.new store.new }
-        ensures did { OpenCalls S.did slice.now.from (answered (without_stream result)) (stream, home.old, store.old) (stream_after result, home.new, store.new) }
+        ensures did { OpenCalls S.did slice.now.from (has_answer (without_stream result)) (stream, home.old, store.old) (stream_after result, home.new, store.new) }
         ensures damage { Blames (S.damage stream) (S.damage (stream_after result)) (without_stream result) }
         ensures cause { Caused (without_stream result) (W.files store.old) (W.faults store.old) (W.faults store.new) }
         ensures store { HoldsSameFiles W.files W.building store.old store.new }
@@ -85,7 +85,7 @@ impl<S> Reader<S> {
         ensures spends { (left : S → ℕ) → Spends S.did left W.asks → MatchResult result (λ _. W.asks store.new + left self.new.stream ≤ W.asks store.old + left self.old.stream) (λ _. W.asks store.new ≤ W.asks store.old + left self.old.stream) }
         ensures quiet { (settled : S → Bool) → IsQuiet S.did settled W.asks → IsTrue (settled self.old.stream) → (W.asks store.new ≡ W.asks store.old) × IsTrue (settled self.new.stream) }
         ensures moves { MovedOn S.moves home.old store.old home.new store.new }
-        ensures did { (y : Pos) → GoesNoFurther (S.seen self.old.stream home.old store.old) self.old.work count y → InTurn (OneStep S.did (OfNext y)) (answered result) (self.old.stream, home.old, store.old) (self.new.stream, home.new, store.new) }
+        ensures did { (y : Pos) → GoesNoFurther (S.seen self.old.stream home.old store.old) self.old.work count y → InTurn (OneStep S.did (OfNext y)) (has_answer result) (self.old.stream, home.old, store.old) (self.new.stream, home.new, store.new) }
         ensures damage { Blames (S.damage self.old.stream) (S.damage self.new.stream) result }
         ensures cause { Caused result (W.files store.old) (W.faults store.old) (W.faults store.new) }
         ensures store { HoldsSameFiles W.files W.building store.old store.new }
@@ -124,7 +124,7 @@ fn begin<H, W: Store, S: Frags<H, W>>(
     ensures ahead { (x : Pos) → S.ahead stream.old x → OnErr result (S.ahead stream.new x) }
     ensures ready { S.ready stream.new home.new store.new }
     ensures moves { MovedOn S.moves home.old store.old home.new store.new }
-    ensures did { OpenCalls S.did slice.now.from (answered result) (stream.old, home.old, store.old) (stream.new, home.new, store.new) }
+    ensures did { OpenCalls S.did slice.now.from (has_answer result) (stream.old, home.old, store.old) (stream.new, home.new, store.new) }
     ensures damage { Blames (S.damage stream.old) (S.damage stream.new) result }
     ensures cause { Caused result (W.files store.old) (W.faults store.old) (W.faults store.new) }
     ensures store { HoldsSameFiles W.files W.building store.old store.new }
@@ -158,7 +158,7 @@ fn fetch<H, W: Store, S: Frags<H, W>>(
     ensures ready { S.ready stream.new home.new store.new }
     ensures moves { MovedOn S.moves home.old store.old home.new store.new }
     ensures goes { (y : Pos) (n : ℕ) → GoesNoFurther (S.seen stream.old home.old store.old) work.old n y → GoesNoFurther (S.seen stream.new home.new store.new) work.new n y }
-    ensures did { (y : Pos) → (work.old.taken ≡ None → ReachesEnd (S.seen stream.old home.old store.old) work.old.to y) → InTurn (OneStep S.did (OfNext y)) (answered result) (stream.old, home.old, store.old) (stream.new, home.new, store.new) }
+    ensures did { (y : Pos) → (work.old.taken ≡ None → ReachesEnd (S.seen stream.old home.old store.old) work.old.to y) → InTurn (OneStep S.did (OfNext y)) (has_answer result) (stream.old, home.old, store.old) (stream.new, home.new, store.new) }
     ensures damage { Blames (S.damage stream.old) (S.damage stream.new) result }
     ensures cause { Caused result (W.files store.old) (W.faults store.old) (W.faults store.new) }
     ensures store { HoldsSameFiles W.files W.building store.old store.new }
@@ -190,7 +190,7 @@ fn step<H, W: Store, S: Frags<H, W>>(
     ensures ready { S.ready stream.new home.new store.new }
     ensures moves { MovedOn S.moves home.old store.old home.new store.new }
     ensures goes { (y : Pos) (n : ℕ) → length work.old.lines.items ≤ n → GoesNoFurther (S.seen stream.old home.old store.old) work.old n y → GoesNoFurther (S.seen stream.new home.new store.new) work.new n y }
-    ensures did { (y : Pos) (n : ℕ) → length work.old.lines.items ≤ n → GoesNoFurther (S.seen stream.old home.old store.old) work.old n y → InTurn (OneStep S.did (OfNext y)) (answered result) (stream.old, home.old, store.old) (stream.new, home.new, store.new) }
+    ensures did { (y : Pos) (n : ℕ) → length work.old.lines.items ≤ n → GoesNoFurther (S.seen stream.old home.old store.old) work.old n y → InTurn (OneStep S.did (OfNext y)) (has_answer result) (stream.old, home.old, store.old) (stream.new, home.new, store.new) }
     ensures damage { Blames (S.damage stream.old) (S.damage stream.new) result }
     ensures cause { Caused result (W.files store.old) (W.faults store.old) (W.faults store.new) }
     ensures store { HoldsSameFiles W.files W.building store.old store.new }
@@ -220,7 +220,7 @@ fn make<H, W: Store, S: Frags<H, W>>(
     ensures to { work.new.to ≡ work.old.to }
     ensures ready { S.ready stream.new home.new store.new }
     ensures moves { MovedOn S.moves home.old store.old home.new store.new }
-    ensures did { (y : Pos) → GoesNoFurther (S.seen stream.old home.old store.old) work.old count y → InTurn (OneStep S.did (OfNext y)) (answered result) (stream.old, home.old, store.old) (stream.new, home.new, store.new) }
+    ensures did { (y : Pos) → GoesNoFurther (S.seen stream.old home.old store.old) work.old count y → InTurn (OneStep S.did (OfNext y)) (has_answer result) (stream.old, home.old, store.old) (stream.new, home.new, store.new) }
     ensures damage { Blames (S.damage stream.old) (S.damage stream.new) result }
     ensures cause { Caused result (W.files store.old) (W.faults store.old) (W.faults store.new) }
     ensures store { HoldsSameFiles W.files W.building store.old store.new }

@@ -2,7 +2,7 @@
 ghost use Rattle.std.specs.Prelude.{◌≡◌, ◌↔◌, List, IfOk, IsTrue};
 ghost use Rattle.rc_cell.specs.Orders.{tomb_cmp};
 ghost use Rattle.rc_cell.specs.Winner.{greatest};
-ghost use Rattle.rc_core.specs.Chain.{IsKnown, content, flagged, states_at};
+ghost use Rattle.rc_core.specs.Chain.{IsKnown, content, has_flag, states_at};
 ghost use Rattle.rc_core.specs.Continuity.{static_states, version_tombs};
 ghost use Rattle.rc_core.specs.SpotState.{through};
 ghost use Rattle.rc_core.specs.Version.{On};
@@ -109,7 +109,7 @@ pub fn head<const S: usize>(
 ) -> Result<ReadHead, AllocError>
     requires { (read : List StandingVersion) × AreUpTo region.now root number read }
     ensures pt { (read : List StandingVersion) → AreUpTo region.now root number read → IfOk result (λ h. h.pt ≡ greatest tomb_cmp (version_tombs (read_versions read))) }
-    ensures known { (read : List StandingVersion) → AreUpTo region.now root number read → IfOk result (λ h. h.known ≡ flagged kind (static_states (read_versions read))) }
+    ensures known { (read : List StandingVersion) → AreUpTo region.now root number read → IfOk result (λ h. h.known ≡ has_flag kind (static_states (read_versions read))) }
     ensures row { (read : List StandingVersion) → AreUpTo region.now root number read → IfOk result (λ h. IsRowGiven h.row (content (static_states (read_versions read))).0) }
 {
     let pt = greatest_tomb(region, root, number);

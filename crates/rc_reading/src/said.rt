@@ -7,7 +7,7 @@ ghost use Rattle.lsa_tree.specs.Entries.{IsEntryAtPosition};
 ghost use Rattle.rc_core.specs.declared.entries.Entry.{Entry};
 ghost use Rattle.rc_core.specs.Change.{mark};
 ghost use Rattle.rc_core.specs.Slow.{spot_at};
-ghost use Rattle.rc_core.specs.Version.{Behind, Version, found, seen};
+ghost use Rattle.rc_core.specs.Version.{Behind, Version, finding_in, finding_of};
 ghost use Rattle.rc_object.specs.Objects.{HoldsEntry};
 ghost use Rattle.rc_partition.specs.Versions.{IsVersionOf};
 ghost use Rattle.rc_reading.specs.calls.Reading.{IsFindingRead, IsRowRead, finding_at};
@@ -35,7 +35,7 @@ pub(crate) enum Asked<'a> {
 // What an entry says at its own position.
 fn at_entry<const S: usize>(region: &Region<S>, e: Ref) -> (Mark, Option<Ref>)
     requires { (y : Entry) × HoldsEntry region.now e y }
-    ensures { (y : Entry) → HoldsEntry region.now e y → IsFindingRead region.now result (found y.at y.row) }
+    ensures { (y : Entry) → HoldsEntry region.now e y → IsFindingRead region.now result (finding_of y.at y.row) }
 {
     let (at, _gap) = marks(region, e);
     match region.kind(e) {
@@ -47,7 +47,7 @@ fn at_entry<const S: usize>(region: &Region<S>, e: Ref) -> (Mark, Option<Ref>)
 // What is said over the gap before an entry.
 fn before_entry<const S: usize>(region: &Region<S>, e: Ref) -> (Mark, Option<Ref>)
     requires { (y : Entry) × HoldsEntry region.now e y }
-    ensures { (y : Entry) → HoldsEntry region.now e y → IsFindingRead region.now result (found y.gap None) }
+    ensures { (y : Entry) → HoldsEntry region.now e y → IsFindingRead region.now result (finding_of y.gap None) }
 {
     (marks(region, e).1, None)
 }
@@ -55,7 +55,7 @@ fn before_entry<const S: usize>(region: &Region<S>, e: Ref) -> (Mark, Option<Ref
 // What a version says over the gap behind one of its entries; behind the last one it says nothing.
 fn behind_entry<const S: usize>(region: &Region<S>, v: Ref, e: Ref) -> (Mark, Option<Ref>)
     requires { (front : List Name) × (back : List Name) × (c : Version) × IsVersionOf region.now v (front ++ (e ∷ back)) c }
-    ensures { (front back : List Name) (c : Version) (x : Position) → IsVersionOf region.now v (front ++ (e ∷ back)) c → IsEntryAtPosition region.now e x → IsFindingRead region.now result (seen (Behind x) c.entries) }
+    ensures { (front back : List Name) (c : Version) (x : Position) → IsVersionOf region.now v (front ++ (e ∷ back)) c → IsEntryAtPosition region.now e x → IsFindingRead region.now result (finding_in (Behind x) c.entries) }
 {
     let tree = Tree {
         top: End::Obj(v, 2),
@@ -75,7 +75,7 @@ fn behind_entry<const S: usize>(region: &Region<S>, v: Ref, e: Ref) -> (Mark, Op
 // What a version says of a position, or of the gap right behind it. It searches once.
 fn clustered<const S: usize>(region: &Region<S>, v: Ref, x: &Pos, side: Side) -> (Mark, Option<Ref>)
     requires { (refs : List Name) × (c : Version) × IsVersionOf region.now v refs c }
-    ensures { (refs : List Name) (c : Version) → IsVersionOf region.now v refs c → IsFindingRead region.now result (seen (spot_at side x.now) c.entries) }
+    ensures { (refs : List Name) (c : Version) → IsVersionOf region.now v refs c → IsFindingRead region.now result (finding_in (spot_at side x.now) c.entries) }
 {
     let tree = Tree {
         top: End::Obj(v, 2),
@@ -91,7 +91,7 @@ fn clustered<const S: usize>(region: &Region<S>, v: Ref, x: &Pos, side: Side) ->
 // What a version says of its static row.
 fn statics<const S: usize>(region: &Region<S>, v: Ref) -> (Mark, Option<Ref>)
     requires { (refs : List Name) × (c : Version) × IsVersionOf region.now v refs c }
-    ensures { (refs : List Name) (c : Version) → IsVersionOf region.now v refs c → IsFindingRead region.now result (found (mark c.static_flag None) c.statics) }
+    ensures { (refs : List Name) (c : Version) → IsVersionOf region.now v refs c → IsFindingRead region.now result (finding_of (mark c.static_flag None) c.statics) }
 {
     let flag = head_of(region, v).static_flag;
     (Mark { flag, tomb: None }, static_row(region, v))

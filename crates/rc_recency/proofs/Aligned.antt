@@ -12,7 +12,7 @@ use Rattle.lsa_region.specs.Region.{View}
 use Rattle.lsa_tree.specs.Entries.{AreAscending, IsEntryAtPosition, StandsLater}
 use Rattle.lsa_tree.specs.laws.Orders.{all-at, behind-at, not-both, stands-once}
 use Rattle.rc_core.specs.AtPlace.{HasEntryAt}
-use Rattle.rc_core.specs.Change.{at_entry, split, split_by, take_out, with_first_gap}
+use Rattle.rc_core.specs.Change.{at_entry, gap_split, split_by, take_out, with_first_gap}
 use Rattle.rc_core.specs.declared.entries.Entry.{Entry}
 use Rattle.rc_core.specs.declared.entries.Mark.{Mark}
 use Rattle.rc_object.specs.Objects.{HoldsEntry}
@@ -128,9 +128,9 @@ IsPutAt x old new = (front : List Pos) × (back : List Pos) × (old ≡ front ++
 abbrev PositionsSplit : Pos → List Entry → List Entry → Type 0
 PositionsSplit x es now = HasEntryAt x now → (positions now ≡ positions es) ⊎ IsPutAt x (positions es) (positions now)
 
-pub positions-split : (x : Pos) (es : List Entry) → HasEntryAt x (split x es) → (positions (split x es) ≡ positions es) ⊎ IsPutAt x (positions es) (positions (split x es))
+pub positions-split : (x : Pos) (es : List Entry) → HasEntryAt x (gap_split x es) → (positions (gap_split x es) ≡ positions es) ⊎ IsPutAt x (positions es) (positions (gap_split x es))
 positions-split x [] h = inl refl
-positions-split x (e ∷ es) h = (elim (pos_cmp x e.position) as (λ r. pos_cmp x e.position ≡ r → PositionsSplit x (e ∷ es) (split_by r x e es (split x es))) [
+positions-split x (e ∷ es) h = (elim (pos_cmp x e.position) as (λ r. pos_cmp x e.position ≡ r → PositionsSplit x (e ∷ es) (split_by r x e es (gap_split x es))) [
   | Less ↦ λ is k. inr ([], positions (e ∷ es), refl, refl)
   | Equal ↦ λ is k. inl refl
   | Greater ↦ λ is k. elim k [

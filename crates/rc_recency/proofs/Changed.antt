@@ -9,10 +9,10 @@ use Rattle.lsa_list.specs.declared.recency.List.{List as Slots}
 use Rattle.rc_core.specs.Version.{Version}
 use Rattle.rc_version.specs.Versions.{IsKeptBut, IsVersionOf, IsWeighed}
 use Rattle.rc_memory.specs.Partitions.{StandingVersion, partition_of, standing}
-use Rattle.rc_registry.specs.Registry.{Registry, put}
+use Rattle.rc_registry.specs.Registry.{Registry, put_at_number}
 use Rattle.rc_memory.specs.declared.counts.Counts.{Counts}
 use Rattle.rc_memory.specs.Memory.{KeptChain, Member, Memory, IsMemberObject, IsOfVersion, on_chain, on_shown, on_version_of, version_changed}
-use Rattle.rc_memory.specs.Changes.{IsVersionChanged, Nowhere, member}
+use Rattle.rc_memory.specs.Changes.{IsVersionChanged, Nowhere, member_at}
 use Rattle.rc_memory.specs.Kept.{HoldMemory}
 use Rattle.rc_memory.specs.laws.Changed.{held-changed, standing-is}
 use Rattle.rc_memory.specs.laws.Put.{put-at, put-same}
@@ -25,17 +25,17 @@ module _ (slots : Slots) (v : View) (registry : Registry) (counts : Counts) (m :
   -- where the version is what it was nothing changed
   unchanged : f c ≡ c → m.chains ≡ on_chain id (on_shown (on_version_of j f)) m.chains
   unchanged same = sym (put-same m.chains id k h.chain)
-      ∙ ap (λ vs. put id (Some (record { chain = record { kind = k.chain.kind; versions = vs; attached = k.chain.attached; updating = k.chain.updating; pins = k.chain.pins }; passed = k.passed })) m.chains)
+      ∙ ap (λ vs. put_at_number id (Some (record { chain = record { kind = k.chain.kind; versions = vs; attached = k.chain.attached; updating = k.chain.updating; pins = k.chain.pins }; passed = k.passed })) m.chains)
       (h.number.split ∙ ap (λ d. h.number.older ++ (d ∷ h.number.newer)) (sym same) ∙ sym (on-is k.chain.versions j c f h.number))
-      ∙ ap (λ o. put id (option_map (on_shown (on_version_of j f)) o) m.chains) (sym h.chain)
+      ∙ ap (λ o. put_at_number id (option_map (on_shown (on_version_of j f)) o) m.chains) (sym h.chain)
 
   pub version-unchanged : f c ≡ c → IsVersionChanged id j f Nowhere m m
   version-unchanged same = record { chains = unchanged same; dropped = refl; counts = refl; still = still-itself Nowhere m; region = unmoved-itself m.region }
 
 module _ (slots : Slots) (old new : View) (registry : Registry) (counts : Counts) (m : Memory) (id j : ℕ) (k : KeptChain) (c : Version) (n : Ref) (h : IsHeldVersion slots old registry counts m id j k c n)
     (f : Version → Version) (now : List Ref) (kept : IsKeptBut n old new) (is : IsVersionOf new n now (f c)) (summed : IsSummed old) (well : IsWell new) (summed_new : IsSummed new) (weigh : IsWeighed old new c (f c)) (these : Member → Type 0)
-    (stay : (at : Option Pos) (r : Ref) → (these (member id j at) → ⊥) → IsOfVersion old (standing n (standing-as slots old registry counts m id j k c n h).entries c) at r → IsOfVersion new (standing n now (f c)) at r)
-    (free : (at : Option Pos) → Contains m.recency (member id j at) → these (member id j at) → ⊥) where
+    (stay : (at : Option Pos) (r : Ref) → (these (member_at id j at) → ⊥) → IsOfVersion old (standing n (standing-as slots old registry counts m id j k c n h).entries c) at r → IsOfVersion new (standing n now (f c)) at r)
+    (free : (at : Option Pos) → Contains m.recency (member_at id j at) → these (member_at id j at) → ⊥) where
   abbrev s : IsStandingAs m.standing id j c n
   s = standing-as slots old registry counts m id j k c n h
 
@@ -45,7 +45,7 @@ module _ (slots : Slots) (old new : View) (registry : Registry) (counts : Counts
   abbrev pub later : Memory
   later = version_changed id j (standing n now (f c)) new m
 
-  place-is : (w : Member) → w.chain ≡ id → w.version ≡ j → w ≡ member id j w.position
+  place-is : (w : Member) → w.chain ≡ id → w.version ≡ j → w ≡ member_at id j w.position
   place-is w a b = λ i. record { chain = a i; version = b i; position = w.position }
 
   pub held-later : HoldMemory slots new registry counts later
@@ -56,7 +56,7 @@ module _ (slots : Slots) (old new : View) (registry : Registry) (counts : Counts
   changed-later = is-changed slots old new registry counts m h.held id j s.partition before s.there s.number now (f c) kept is f these refl stay
 
   -- an object of the version at a place
-  pub member-later : (at : Option Pos) (r : Ref) → IsOfVersion new (standing n now (f c)) at r → IsMemberObject later r (member id j at)
+  pub member-later : (at : Option Pos) (r : Ref) → IsOfVersion new (standing n now (f c)) at r → IsMemberObject later r (member_at id j at)
   member-later at r o =
       let p = partition_of s.partition.root (s.number.older ++ (standing n now (f c) ∷ s.number.newer)) in record {
         partition = p;

@@ -16,7 +16,7 @@ use Rattle.rc_version.specs.Versions.{IsKeptBut, IsVersionOf, entries_bytes, ent
 use Rattle.rc_registry.specs.Registry.{Registry}
 use Rattle.rc_memory.specs.declared.counts.Counts.{Counts}
 use Rattle.rc_memory.specs.Memory.{KeptChain, Memory, IsMemberObject}
-use Rattle.rc_memory.specs.Changes.{IsVersionChanged, Nowhere, member}
+use Rattle.rc_memory.specs.Changes.{IsVersionChanged, Nowhere, member_at}
 use Rattle.rc_memory.specs.Kept.{HoldMemory}
 use Rattle.rc_recency.specs.Holding.{HoldsAfter, IsHeldVersion}
 use Rattle.rc_recency.proofs.Aligned.{positions}
@@ -43,7 +43,7 @@ module _ (slots : Slots) (old new : View) (registry : Registry) (counts : Counts
   held-rewritten r rewritten = held-marked (ap live_sum rewritten.0.1.usages) (rewritten.0.1.links (Obj v 3))
 
 -- an entry at a place is one of the entries of a version
-pub entry-there : (slots : Slots) (v : View) (registry : Registry) (counts : Counts) (m : Memory) → HoldMemory slots v registry counts m → (id j : ℕ) (x : Pos) (e : Ref) → IsMemberObject m e (member id j (Some x)) → (n : Ref) × (refs : List Ref) × (c : Version) × IsVersionOf v n refs c × Contains refs e
+pub entry-there : (slots : Slots) (v : View) (registry : Registry) (counts : Counts) (m : Memory) → HoldMemory slots v registry counts m → (id j : ℕ) (x : Pos) (e : Ref) → IsMemberObject m e (member_at id j (Some x)) → (n : Ref) × (refs : List Ref) × (c : Version) × IsVersionOf v n refs c × Contains refs e
 entry-there slots v registry counts m h id j x e here =
     let a = version-of-member slots v registry counts m h id j (Some x) e here in let n = here.version.object in let c = here.version.version in
     (n, (standing-as slots v registry counts m id j a.0 c n a.1).entries, c, stands slots v registry counts m id j a.0 c n a.1, (own-object slots v registry counts m id j a.0 c n a.1 (Some x) e here).0)
@@ -52,7 +52,7 @@ module _ (old new : View) (e : Ref) (g : Pos → Version → Version) (set : (n 
     (kept : (n : Ref) (refs : List Ref) (c : Version) → IsVersionOf old n refs c → Contains refs e → IsKeptBut n old new) (rewritten : IsRewritten old new e) (summed : IsSummed old) (well : IsWell new) (summed_new : IsSummed new)
     (bytes : (x : Pos) (c : Version) → version_bytes (g x c) ≡ version_bytes c) (same : (x : Pos) (c : Version) → positions (g x c).entries ≡ positions c.entries) where
   -- marks of an entry at a place
-  pub entry-marked : (slots : Slots) (registry : Registry) (counts : Counts) (m : Memory) (id j : ℕ) (x : Pos) → HoldMemory slots old registry counts m → IsMemberObject m e (member id j (Some x)) → HoldsAfter slots new registry counts (λ n. IsVersionChanged id j (g x) Nowhere m n × (n.recency ≡ m.recency))
+  pub entry-marked : (slots : Slots) (registry : Registry) (counts : Counts) (m : Memory) (id j : ℕ) (x : Pos) → HoldMemory slots old registry counts m → IsMemberObject m e (member_at id j (Some x)) → HoldsAfter slots new registry counts (λ n. IsVersionChanged id j (g x) Nowhere m n × (n.recency ≡ m.recency))
   entry-marked slots registry counts m id j x h here =
       let a = version-of-member slots old registry counts m h id j (Some x) e here in let n = here.version.object in let c = here.version.version in
       let refs = (standing-as slots old registry counts m id j a.0 c n a.1).entries in let is = stands slots old registry counts m id j a.0 c n a.1 in

@@ -18,7 +18,7 @@ use Rattle.rc_core.specs.declared.entries.ChainKind.{ChainKind}
 use Rattle.rc_core.specs.declared.entries.ChainKind.TheVariants.{Memtable}
 use Rattle.rc_core.specs.declared.entries.Entry.{Entry}
 use Rattle.rc_core.specs.Change.{joined_onto}
-use Rattle.rc_core.specs.Version.{On, Version, end_position, seen}
+use Rattle.rc_core.specs.Version.{On, Version, end_position, finding_in}
 use Rattle.rc_object.specs.Objects.{HasRoomFor, HoldsEntry, HoldsStatic, entry_length}
 use Rattle.rc_version.specs.Versions.{joined_bytes}
 use Rattle.rc_registry.specs.Registry.{Registry}
@@ -61,7 +61,7 @@ IsOffMemtable kind w m = kind ≡ Memtable → Contains m.recency w → ⊥
 
 -- there is room for the entry of a version at a position with a row joined
 abbrev pub HasRoomToJoin : ℕ → View → ℕ → Pos → Row → Version → Type 0
-HasRoomToJoin S v space x row c = HasRoomFor S v (joined_bytes x row c) space (entry_length x (Some (joined_onto (seen (On x) c.entries).row row)))
+HasRoomToJoin S v space x row c = HasRoomFor S v (joined_bytes x row c) space (entry_length x (Some (joined_onto (finding_in (On x) c.entries).row row)))
 
 -- there is room for a static row of a version with a row joined
 abbrev pub HasRoomForStatics : ℕ → View → ℕ → Row → Version → Type 0

@@ -16,7 +16,7 @@ ghost use Rattle.rc_version.specs.Versions.{IsEntryFound, IsStaticsOf, IsVersion
 ghost use Rattle.rc_registry.specs.Registry.{Registry};
 ghost use Rattle.rc_memory.specs.declared.counts.Counts.{Counts};
 ghost use Rattle.rc_memory.specs.Memory.{KeptChain, Memory, IsMemberObject};
-ghost use Rattle.rc_memory.specs.Changes.{AtAlone, IsRenewed, IsVersionChanged, member};
+ghost use Rattle.rc_memory.specs.Changes.{AtAlone, IsRenewed, IsVersionChanged, member_at};
 ghost use Rattle.rc_recency.specs.Holding.{HasRoomLike, HasRoomToJoin, HoldsAfter, IsHeldVersion, IsOffMemtable};
 
 use crate::listing::{push_cached, take_found};
@@ -41,8 +41,8 @@ pub fn join_row<const S: usize>(
 ) -> Ref
     requires limits { KeyFits key.now }
     requires row { (registry : Registry) × (counts : Counts) × (m : Memory) × (id : ℕ) × (j : ℕ) × (k : KeptChain) × (c : Version) × (row : Row) × IsHeldVersion list.now region.old registry counts m id j k c v × IsRowCode code.now row × HasRoomToJoin S region.old sc.old.size (row_pos key.now) row c }
-    ensures changed { (registry : Registry) (counts : Counts) (m : Memory) (id j : ℕ) (k : KeptChain) (c : Version) (row : Row) → IsHeldVersion list.now region.old registry counts m id j k c v → IsRowCode code.now row → IsOffMemtable kind (member id j (Some (row_pos key.now))) m →
-        HoldsAfter list.now region.new registry counts (λ n. IsVersionChanged id j (row_joined (row_pos key.now) row) (AtAlone (member id j (Some (row_pos key.now)))) m n × IsRenewed kind (member id j (Some (row_pos key.now))) m.recency n.recency × IsMemberObject n result (member id j (Some (row_pos key.now)))) }
+    ensures changed { (registry : Registry) (counts : Counts) (m : Memory) (id j : ℕ) (k : KeptChain) (c : Version) (row : Row) → IsHeldVersion list.now region.old registry counts m id j k c v → IsRowCode code.now row → IsOffMemtable kind (member_at id j (Some (row_pos key.now))) m →
+        HoldsAfter list.now region.new registry counts (λ n. IsVersionChanged id j (row_joined (row_pos key.now) row) (AtAlone (member_at id j (Some (row_pos key.now)))) m n × IsRenewed kind (member_at id j (Some (row_pos key.now))) m.recency n.recency × IsMemberObject n result (member_at id j (Some (row_pos key.now)))) }
     ensures spare { (registry : Registry) (counts : Counts) (m : Memory) (id j : ℕ) (k : KeptChain) (c : Version) (row : Row) → IsHeldVersion list.now region.old registry counts m id j k c v → IsRowCode code.now row → spare_of S region.old.usages ≤ spare_of S region.new.usages + joined_bytes (row_pos key.now) row c }
     ensures size { sc.new.size ≡ sc.old.size }
     ensures well { IsWell region.new }
@@ -81,11 +81,11 @@ pub fn join_like<const S: usize>(
     sc: &mut Scratch,
 ) -> Ref
     requires { (registry : Registry) × (counts : Counts) × (m : Memory) × (id : ℕ) × (j : ℕ) × (k : KeptChain) × (c : Version) × IsHeldVersion list.now region.old registry counts m id j k c v × HasRoomLike S region.old sc.old.size e c }
-    ensures entry { (registry : Registry) (counts : Counts) (m : Memory) (id j : ℕ) (k : KeptChain) (c : Version) (y : Entry) (row : Row) → IsHeldVersion list.now region.old registry counts m id j k c v → HoldsEntry region.old e y → y.row ≡ Some row → IsOffMemtable kind (member id j (Some y.position)) m →
-        HoldsAfter list.now region.new registry counts (λ n. IsVersionChanged id j (row_joined y.position row) (AtAlone (member id j (Some y.position))) m n × IsRenewed kind (member id j (Some y.position)) m.recency n.recency × IsMemberObject n result (member id j (Some y.position))) }
+    ensures entry { (registry : Registry) (counts : Counts) (m : Memory) (id j : ℕ) (k : KeptChain) (c : Version) (y : Entry) (row : Row) → IsHeldVersion list.now region.old registry counts m id j k c v → HoldsEntry region.old e y → y.row ≡ Some row → IsOffMemtable kind (member_at id j (Some y.position)) m →
+        HoldsAfter list.now region.new registry counts (λ n. IsVersionChanged id j (row_joined y.position row) (AtAlone (member_at id j (Some y.position))) m n × IsRenewed kind (member_at id j (Some y.position)) m.recency n.recency × IsMemberObject n result (member_at id j (Some y.position))) }
     ensures entry_spare { (registry : Registry) (counts : Counts) (m : Memory) (id j : ℕ) (k : KeptChain) (c : Version) (y : Entry) (row : Row) → IsHeldVersion list.now region.old registry counts m id j k c v → HoldsEntry region.old e y → y.row ≡ Some row → spare_of S region.old.usages ≤ spare_of S region.new.usages + joined_bytes y.position row c }
-    ensures statics { (registry : Registry) (counts : Counts) (m : Memory) (id j : ℕ) (k : KeptChain) (c : Version) (row : Row) → IsHeldVersion list.now region.old registry counts m id j k c v → HoldsStatic region.old e row → IsOffMemtable kind (member id j None) m →
-        HoldsAfter list.now region.new registry counts (λ n. IsVersionChanged id j (join_statics row) (AtAlone (member id j None)) m n × IsRenewed kind (member id j None) m.recency n.recency × IsMemberObject n result (member id j None)) }
+    ensures statics { (registry : Registry) (counts : Counts) (m : Memory) (id j : ℕ) (k : KeptChain) (c : Version) (row : Row) → IsHeldVersion list.now region.old registry counts m id j k c v → HoldsStatic region.old e row → IsOffMemtable kind (member_at id j None) m →
+        HoldsAfter list.now region.new registry counts (λ n. IsVersionChanged id j (join_statics row) (AtAlone (member_at id j None)) m n × IsRenewed kind (member_at id j None) m.recency n.recency × IsMemberObject n result (member_at id j None)) }
     ensures statics_spare { (registry : Registry) (counts : Counts) (m : Memory) (id j : ℕ) (k : KeptChain) (c : Version) (row : Row) → IsHeldVersion list.now region.old registry counts m id j k c v → HoldsStatic region.old e row → spare_of S region.old.usages ≤ spare_of S region.new.usages + static_size (joined_onto c.statics row) }
     ensures size { sc.new.size ≡ sc.old.size }
     ensures well { IsWell region.new }

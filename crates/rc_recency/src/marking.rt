@@ -10,12 +10,12 @@ ghost use Rattle.rc_core.specs.AtPlace.{HasEntryAt};
 ghost use Rattle.rc_core.specs.Steps as steps;
 ghost use Rattle.rc_core.specs.Version.{Version};
 ghost use Rattle.rc_object.specs.Objects.{IsRewritten};
-ghost use Rattle.rc_version.specs.Versions.{marked, marked_between};
+ghost use Rattle.rc_version.specs.Versions.{mark_after, marked_between};
 ghost use Rattle.rc_registry.specs.Registry.{Registry};
 ghost use Rattle.rc_memory.specs.declared.counts.Counts.{Counts};
 ghost use Rattle.rc_memory.specs.Memory.{KeptChain, Memory, IsMemberObject};
 ghost use Rattle.rc_memory.specs.Kept.{HoldMemory};
-ghost use Rattle.rc_memory.specs.Changes.{IsVersionChanged, Nowhere, member};
+ghost use Rattle.rc_memory.specs.Changes.{IsVersionChanged, Nowhere, member_at};
 ghost use Rattle.rc_recency.specs.Holding.{HoldsAfter, IsHeldVersion};
 
 use lsa_region::{Ref, Region};
@@ -26,8 +26,8 @@ use rc_version::Marking;
 
 /// Gives an entry of a version other flags, at it and over the gap before it. Its tombstones stay.
 pub fn set_flags<const S: usize>(region: &mut Region<S>, e: Ref, at: Flag, gap: Flag)
-    requires { (slots : Slots) × (registry : Registry) × (counts : Counts) × (m : Memory) × (id : ℕ) × (j : ℕ) × (x : Position) × HoldMemory slots region.old registry counts m × IsMemberObject m e (member id j (Some x)) }
-    ensures changed { (slots : Slots) (registry : Registry) (counts : Counts) (m : Memory) (id j : ℕ) (x : Position) → HoldMemory slots region.old registry counts m → IsMemberObject m e (member id j (Some x)) →
+    requires { (slots : Slots) × (registry : Registry) × (counts : Counts) × (m : Memory) × (id : ℕ) × (j : ℕ) × (x : Position) × HoldMemory slots region.old registry counts m × IsMemberObject m e (member_at id j (Some x)) }
+    ensures changed { (slots : Slots) (registry : Registry) (counts : Counts) (m : Memory) (id j : ℕ) (x : Position) → HoldMemory slots region.old registry counts m → IsMemberObject m e (member_at id j (Some x)) →
         HoldsAfter slots region.new registry counts (λ n. IsVersionChanged id j (steps.set_flags x at gap) Nowhere m n × (n.recency ≡ m.recency)) }
     ensures rewritten { IsRewritten region.old region.new e }
     ensures well { IsWell region.new }
@@ -44,8 +44,8 @@ pub fn set_tombs<const S: usize>(
     at: Option<Tomb>,
     gap: Option<Tomb>,
 )
-    requires { (slots : Slots) × (registry : Registry) × (counts : Counts) × (m : Memory) × (id : ℕ) × (j : ℕ) × (x : Position) × HoldMemory slots region.old registry counts m × IsMemberObject m e (member id j (Some x)) }
-    ensures changed { (slots : Slots) (registry : Registry) (counts : Counts) (m : Memory) (id j : ℕ) (x : Position) → HoldMemory slots region.old registry counts m → IsMemberObject m e (member id j (Some x)) →
+    requires { (slots : Slots) × (registry : Registry) × (counts : Counts) × (m : Memory) × (id : ℕ) × (j : ℕ) × (x : Position) × HoldMemory slots region.old registry counts m × IsMemberObject m e (member_at id j (Some x)) }
+    ensures changed { (slots : Slots) (registry : Registry) (counts : Counts) (m : Memory) (id j : ℕ) (x : Position) → HoldMemory slots region.old registry counts m → IsMemberObject m e (member_at id j (Some x)) →
         HoldsAfter slots region.new registry counts (λ n. IsVersionChanged id j (steps.set_tombs x at gap) Nowhere m n × (n.recency ≡ m.recency)) }
     ensures rewritten { IsRewritten region.old region.new e }
     ensures well { IsWell region.new }
@@ -105,7 +105,7 @@ pub fn mark_between<const S: usize>(
     requires ascend { IsBefore from.now to.now }
     requires version { (slots : Slots) × (registry : Registry) × (counts : Counts) × (m : Memory) × (id : ℕ) × (j : ℕ) × (k : KeptChain) × (c : Version) × IsHeldVersion slots region.old registry counts m id j k c v × HasEntryAt from.now c.entries × HasEntryAt to.now c.entries }
     ensures changed { (slots : Slots) (registry : Registry) (counts : Counts) (m : Memory) (id j : ℕ) (k : KeptChain) (c : Version) → IsHeldVersion slots region.old registry counts m id j k c v →
-        HoldsAfter slots region.new registry counts (λ n. IsVersionChanged id j (marked_between (marked marking) from.now to.now) Nowhere m n × (n.recency ≡ m.recency)) }
+        HoldsAfter slots region.new registry counts (λ n. IsVersionChanged id j (marked_between (mark_after marking) from.now to.now) Nowhere m n × (n.recency ≡ m.recency)) }
     ensures spare { spare_of S region.new.usages ≡ spare_of S region.old.usages }
     ensures well { IsWell region.new }
 {

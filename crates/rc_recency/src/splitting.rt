@@ -13,7 +13,7 @@ ghost use Rattle.rc_object.specs.Objects.{HasRoomFor, HoldsEntry, entry_length};
 ghost use Rattle.rc_registry.specs.Registry.{Registry};
 ghost use Rattle.rc_memory.specs.declared.counts.Counts.{Counts};
 ghost use Rattle.rc_memory.specs.Memory.{KeptChain, Memory, IsMemberObject};
-ghost use Rattle.rc_memory.specs.Changes.{AtAlone, IsRenewedWhereNone, IsVersionChanged, IsWithout, Nowhere, member};
+ghost use Rattle.rc_memory.specs.Changes.{AtAlone, IsRenewedWhereNone, IsVersionChanged, IsWithout, Nowhere, member_at};
 ghost use Rattle.rc_recency.specs.Holding.{HoldsAfter, IsHeldVersion};
 
 use crate::listing::{push_cached, take};
@@ -38,7 +38,7 @@ pub fn split<const S: usize>(
     requires room { HasRoomFor S region.old (dummy_size x.now) sc.old.size (entry_length x.now None) }
     requires version { (registry : Registry) × (counts : Counts) × (m : Memory) × (id : ℕ) × (j : ℕ) × (k : KeptChain) × (c : Version) × IsHeldVersion list.now region.old registry counts m id j k c v }
     ensures changed { (registry : Registry) (counts : Counts) (m : Memory) (id j : ℕ) (k : KeptChain) (c : Version) → IsHeldVersion list.now region.old registry counts m id j k c v →
-        HoldsAfter list.now region.new registry counts (λ n. IsVersionChanged id j (λ d. with_entries (change.split x.now d.entries) d) Nowhere m n × IsRenewedWhereNone kind c (member id j (Some x.now)) m.recency n.recency × IsMemberObject n result (member id j (Some x.now))) }
+        HoldsAfter list.now region.new registry counts (λ n. IsVersionChanged id j (λ d. with_entries (change.gap_split x.now d.entries) d) Nowhere m n × IsRenewedWhereNone kind c (member_at id j (Some x.now)) m.recency n.recency × IsMemberObject n result (member_at id j (Some x.now))) }
     ensures spare { spare_of S region.old.usages ≤ spare_of S region.new.usages + dummy_size x.now }
     ensures size { sc.new.size ≡ sc.old.size }
     ensures well { IsWell region.new }
@@ -67,7 +67,7 @@ pub fn split_like<const S: usize>(
     requires room { (y : Entry) × HoldsEntry region.old e y × HasRoomFor S region.old (dummy_size y.position) sc.old.size (entry_length y.position None) }
     requires version { (registry : Registry) × (counts : Counts) × (m : Memory) × (id : ℕ) × (j : ℕ) × (k : KeptChain) × (c : Version) × IsHeldVersion list.now region.old registry counts m id j k c v }
     ensures changed { (registry : Registry) (counts : Counts) (m : Memory) (id j : ℕ) (k : KeptChain) (c : Version) (y : Entry) → IsHeldVersion list.now region.old registry counts m id j k c v → HoldsEntry region.old e y →
-        HoldsAfter list.now region.new registry counts (λ n. IsVersionChanged id j (λ d. with_entries (change.split y.position d.entries) d) Nowhere m n × IsRenewedWhereNone kind c (member id j (Some y.position)) m.recency n.recency × IsMemberObject n result (member id j (Some y.position))) }
+        HoldsAfter list.now region.new registry counts (λ n. IsVersionChanged id j (λ d. with_entries (change.gap_split y.position d.entries) d) Nowhere m n × IsRenewedWhereNone kind c (member_at id j (Some y.position)) m.recency n.recency × IsMemberObject n result (member_at id j (Some y.position))) }
     ensures spare { (y : Entry) → HoldsEntry region.old e y → spare_of S region.old.usages ≤ spare_of S region.new.usages + dummy_size y.position }
     ensures size { sc.new.size ≡ sc.old.size }
     ensures well { IsWell region.new }
@@ -87,9 +87,9 @@ pub fn split_like<const S: usize>(
 /// Takes an entry of a version out, which is not its end dummy, and frees it. It leaves the recency list first, where it is in it. The gap before the next
 /// entry is Unknown then, and without a tombstone.
 pub fn drop_entry<const S: usize>(region: &mut Region<S>, list: &List, v: Ref, e: Ref)
-    requires { (registry : Registry) × (counts : Counts) × (m : Memory) × (id : ℕ) × (j : ℕ) × (k : KeptChain) × (c : Version) × (x : Position) × IsHeldVersion list.now region.old registry counts m id j k c v × IsMemberObject m e (member id j (Some x)) × (x ≢ end_position) }
-    ensures changed { (registry : Registry) (counts : Counts) (m : Memory) (id j : ℕ) (k : KeptChain) (c : Version) (x : Position) → IsHeldVersion list.now region.old registry counts m id j k c v → IsMemberObject m e (member id j (Some x)) →
-        HoldsAfter list.now region.new registry counts (λ n. IsVersionChanged id j (λ d. with_entries (change.drop_at x d.entries) d) (AtAlone (member id j (Some x))) m n × IsWithout (member id j (Some x)) m.recency n.recency) }
+    requires { (registry : Registry) × (counts : Counts) × (m : Memory) × (id : ℕ) × (j : ℕ) × (k : KeptChain) × (c : Version) × (x : Position) × IsHeldVersion list.now region.old registry counts m id j k c v × IsMemberObject m e (member_at id j (Some x)) × (x ≢ end_position) }
+    ensures changed { (registry : Registry) (counts : Counts) (m : Memory) (id j : ℕ) (k : KeptChain) (c : Version) (x : Position) → IsHeldVersion list.now region.old registry counts m id j k c v → IsMemberObject m e (member_at id j (Some x)) →
+        HoldsAfter list.now region.new registry counts (λ n. IsVersionChanged id j (λ d. with_entries (change.drop_at x d.entries) d) (AtAlone (member_at id j (Some x))) m n × IsWithout (member_at id j (Some x)) m.recency n.recency) }
     ensures gone { body region.new e ≡ None }
     ensures spare { spare_of S region.new.usages ≡ spare_of S region.old.usages }
     ensures well { IsWell region.new }

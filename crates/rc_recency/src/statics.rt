@@ -11,7 +11,7 @@ ghost use Rattle.rc_object.specs.Objects.{IsRowCode};
 ghost use Rattle.rc_registry.specs.Registry.{Registry};
 ghost use Rattle.rc_memory.specs.declared.counts.Counts.{Counts};
 ghost use Rattle.rc_memory.specs.Memory.{KeptChain, Memory};
-ghost use Rattle.rc_memory.specs.Changes.{AtAlone, IsRenewed, IsVersionChanged, IsWithout, member};
+ghost use Rattle.rc_memory.specs.Changes.{AtAlone, IsRenewed, IsVersionChanged, IsWithout, member_at};
 ghost use Rattle.rc_recency.specs.Holding.{HoldsAfter, IsHeldVersion, IsOffMemtable};
 ghost use Rattle.rc_recency.specs.calls.Holding.{list_with};
 
@@ -32,8 +32,8 @@ pub fn set_static<const S: usize>(
     flag: Flag,
 )
     requires { (registry : Registry) × (counts : Counts) × (m : Memory) × (id : ℕ) × (j : ℕ) × (k : KeptChain) × (c : Version) × (row : Row) × IsHeldVersion list.now region.old registry counts m id j k c v × IsRowCode code.now row × (static_size row ≤ S / 8) × (static_size row ≤ spare_of S region.old.usages) }
-    ensures changed { (registry : Registry) (counts : Counts) (m : Memory) (id j : ℕ) (k : KeptChain) (c : Version) (row : Row) → IsHeldVersion list.now region.old registry counts m id j k c v → IsRowCode code.now row → IsOffMemtable kind (member id j None) m →
-        HoldsAfter list.now region.new registry counts (λ n. IsVersionChanged id j (set_statics (Some row) flag) (AtAlone (member id j None)) m n × IsRenewed kind (member id j None) m.recency n.recency) }
+    ensures changed { (registry : Registry) (counts : Counts) (m : Memory) (id j : ℕ) (k : KeptChain) (c : Version) (row : Row) → IsHeldVersion list.now region.old registry counts m id j k c v → IsRowCode code.now row → IsOffMemtable kind (member_at id j None) m →
+        HoldsAfter list.now region.new registry counts (λ n. IsVersionChanged id j (set_statics (Some row) flag) (AtAlone (member_at id j None)) m n × IsRenewed kind (member_at id j None) m.recency n.recency) }
     ensures spare { (row : Row) → IsRowCode code.now row → spare_of S region.old.usages ≤ spare_of S region.new.usages + static_size row }
     ensures well { IsWell region.new }
 {
@@ -52,7 +52,7 @@ pub fn set_static<const S: usize>(
 pub fn drop_static<const S: usize>(region: &mut Region<S>, list: &List, v: Ref)
     requires { (registry : Registry) × (counts : Counts) × (m : Memory) × (id : ℕ) × (j : ℕ) × (k : KeptChain) × (c : Version) × IsHeldVersion list.now region.old registry counts m id j k c v }
     ensures changed { (registry : Registry) (counts : Counts) (m : Memory) (id j : ℕ) (k : KeptChain) (c : Version) → IsHeldVersion list.now region.old registry counts m id j k c v →
-        HoldsAfter list.now region.new registry counts (λ n. IsVersionChanged id j without_statics (AtAlone (member id j None)) m n × IsWithout (member id j None) m.recency n.recency) }
+        HoldsAfter list.now region.new registry counts (λ n. IsVersionChanged id j without_statics (AtAlone (member_at id j None)) m n × IsWithout (member_at id j None) m.recency n.recency) }
     ensures spare { spare_of S region.new.usages ≡ spare_of S region.old.usages }
     ensures well { IsWell region.new }
 {

@@ -5,7 +5,7 @@ use Rattle.std.proofs.Math.ListN.{set}
 use Rattle.std.proofs.lemmas.Bool.Decides.{eqb_tells}
 use Rattle.std.proofs.lemmas.List.{length-set, get_or-set_other, get_or-set_same, length-append}
 use Rattle.lsa_region.specs.declared.end.Root.{Root}
-use Rattle.rc_registry.specs.Registry.{Use, Registry, use_at, put, on_use, IsThere, HasRoot, IsNumberIn, AreOnce}
+use Rattle.rc_registry.specs.Registry.{Use, Registry, use_at, put_at_number, on_use, IsThere, HasRoot, IsNumberIn, AreOnce}
 use Rattle.rc_registry.specs.Kept.{IsKeptRegistry}
 use Rattle.rc_registry.specs.calls.Kept.{IsTakenNumber, IsLonger}
 use Rattle.rc_registry.specs.laws.Numbers.{IsOneOf-front, IsOneOf-back, IsOneOf-parts, AreOnce-push, AreOnce-without, AreOnce-apart, length-AreOnce}
@@ -48,17 +48,17 @@ module _ (uses : List (Option Use)) (vacant dropped owners : List ℕ) (vacant_r
   not-idle id some idle = let e = (kept.gone id idle).1 in let c = chain_of (use_at uses id) some in let clash : None ≡ Some c.0 = sym e ∙ c.1 in cc
 
   -- a chain changes, and stands behind the same root slot
-  pub kept-changed : (id : ℕ) (u v : Use) → use_at uses id ≡ Some u → v.root ≡ u.root → IsKeptRegistry (put id (Some v) uses) vacant dropped owners vacant_room dropped_room
+  pub kept-changed : (id : ℕ) (u v : Use) → use_at uses id ≡ Some u → v.root ≡ u.root → IsKeptRegistry (put_at_number id (Some v) uses) vacant dropped owners vacant_room dropped_room
   kept-changed id u v known root =
       let lt : id < length uses = there uses id (subst (λ c. IsSome c) (sym known) refl) in
-      let long : length (put id (Some v) uses) ≡ length uses = ap length (sym (put-within uses id (Some v) lt)) ∙ length-set uses id (Some v) in
+      let long : length (put_at_number id (Some v) uses) ≡ length uses = ap length (sym (put-within uses id (Some v) lt)) ∙ length-set uses id (Some v) in
       record {
         gone = λ n idle. let was = kept.gone n idle in (omega (arith, long, was.0), beside-put uses id (Some v) n (λ e. none-is-some u (sym was.1 ∙ ap (λ k. use_at uses k) e ∙ known)) ∙ was.1);
         once = kept.once;
         vacant_fit = omega (arith, long, kept.vacant_fit);
         dropped_fit = omega (arith, long, kept.dropped_fit);
         owned = λ n w e. elim (is_same n id) [
-          | inl same ↦ let of = some-is (sym (at-put uses id (Some v)) ∙ ap (λ k. use_at (put id (Some v) uses) k) (sym same) ∙ e) in
+          | inl same ↦ let of = some-is (sym (at-put uses id (Some v)) ∙ ap (λ k. use_at (put_at_number id (Some v) uses) k) (sym same) ∙ e) in
               subst (λ (s : Root). (s.number < length owners) × (get_or owners s.number 0 ≡ n)) (sym root ∙ ap (λ (x : Use). x.root) of) (subst (λ k. (u.root.number < length owners) × (get_or owners u.root.number 0 ≡ k)) (sym same) (kept.owned id u known))
           | inr other ↦ kept.owned n w (sym (beside-put uses id (Some v) n other) ∙ e)
         ];
@@ -67,10 +67,10 @@ module _ (uses : List (Option Use)) (vacant dropped owners : List ℕ) (vacant_r
   -- a chain is there that was not
   pub kept-added : (id : ℕ) (v : Use) (vacant_now owners_now : List ℕ) (vacant_room_now dropped_room_now : ℕ) → use_at uses id ≡ None → AreOnce (vacant_now ++ dropped)
       → ((n : ℕ) → IsNumberIn (vacant_now ++ dropped) n → IsNumberIn (vacant ++ dropped) n × n ≢ id)
-      → length (put id (Some v) uses) ≤ vacant_room_now → length (put id (Some v) uses) ≤ dropped_room_now
+      → length (put_at_number id (Some v) uses) ≤ vacant_room_now → length (put_at_number id (Some v) uses) ≤ dropped_room_now
       → ((n : ℕ) (u : Use) → use_at uses n ≡ Some u → u.root ≢ v.root)
       → ((n : ℕ) → n < length owners → get_or owners_now n 0 ≡ get_or owners n 0) → length owners ≤ length owners_now → v.root.number < length owners_now
-      → IsKeptRegistry (put id (Some v) uses) vacant_now dropped (set owners_now v.root.number id) vacant_room_now dropped_room_now
+      → IsKeptRegistry (put_at_number id (Some v) uses) vacant_now dropped (set owners_now v.root.number id) vacant_room_now dropped_room_now
   kept-added id v vacant_now owners_now vacant_room_now dropped_room_now none once idle vacant_fit dropped_fit apart stay longer within =
       let long = long-put uses id (Some v) in
       record {
@@ -79,7 +79,7 @@ module _ (uses : List (Option Use)) (vacant dropped owners : List ℕ) (vacant_r
         vacant_fit = vacant_fit;
         dropped_fit = dropped_fit;
         owned = λ n w e. elim (is_same n id) [
-          | inl same ↦ let of = some-is (sym (at-put uses id (Some v)) ∙ ap (λ k. use_at (put id (Some v) uses) k) (sym same) ∙ e) in
+          | inl same ↦ let of = some-is (sym (at-put uses id (Some v)) ∙ ap (λ k. use_at (put_at_number id (Some v) uses) k) (sym same) ∙ e) in
               subst (λ (x : Use). (x.root.number < length (set owners_now v.root.number id)) × (get_or (set owners_now v.root.number id) x.root.number 0 ≡ n)) of
               (omega (arith, within, length-set owners_now v.root.number id), get_or-set_same owners_now v.root.number id 0 within ∙ sym same)
           | inr other ↦
@@ -90,22 +90,22 @@ module _ (uses : List (Option Use)) (vacant dropped owners : List ℕ) (vacant_r
       }
 
   -- a chain is gone
-  pub kept-removed : (id : ℕ) → IsSome (use_at uses id) → IsKeptRegistry (put id None uses) vacant (dropped ++ id ∷ []) owners vacant_room dropped_room
+  pub kept-removed : (id : ℕ) → IsSome (use_at uses id) → IsKeptRegistry (put_at_number id None uses) vacant (dropped ++ id ∷ []) owners vacant_room dropped_room
   kept-removed id some =
       let lt = there uses id some in
-      let long : length (put id None uses) ≡ length uses = ap length (sym (put-within uses id None lt)) ∙ length-set uses id None in
-      let gone-at : (n : ℕ) → use_at uses n ≡ None → use_at (put id None uses) n ≡ None =
-      λ n e. elim (is_same n id) [ inl same ↦ ap (λ k. use_at (put id None uses) k) same ∙ at-put uses id None | inr other ↦ beside-put uses id None n other ∙ e ] in
+      let long : length (put_at_number id None uses) ≡ length uses = ap length (sym (put-within uses id None lt)) ∙ length-set uses id None in
+      let gone-at : (n : ℕ) → use_at uses n ≡ None → use_at (put_at_number id None uses) n ≡ None =
+      λ n e. elim (is_same n id) [ inl same ↦ ap (λ k. use_at (put_at_number id None uses) k) same ∙ at-put uses id None | inr other ↦ beside-put uses id None n other ∙ e ] in
       record {
         gone = λ n idle. elim (IsOneOf-parts (vacant ++ dropped) (id ∷ []) n (subst (λ ns. IsNumberIn ns n) (sym (append_assoc vacant dropped (id ∷ []))) idle)) [
           | inl was ↦ let of = kept.gone n was in (omega (arith, long, of.0), gone-at n of.1)
-          | inr this ↦ elim this [ inl e ↦ (omega (arith, long, lt, e), ap (λ k. use_at (put id None uses) k) (sym e) ∙ at-put uses id None) | inr none ↦ absurd none ]
+          | inr this ↦ elim this [ inl e ↦ (omega (arith, long, lt, e), ap (λ k. use_at (put_at_number id None uses) k) (sym e) ∙ at-put uses id None) | inr none ↦ absurd none ]
         ];
         once = subst AreOnce (append_assoc vacant dropped (id ∷ [])) (AreOnce-push (vacant ++ dropped) id kept.once (not-idle id some));
         vacant_fit = omega (arith, long, kept.vacant_fit);
         dropped_fit = omega (arith, long, kept.dropped_fit);
         owned = λ n w e. elim (is_same n id) [
-          | inl same ↦ absurd (none-is-some w (sym (at-put uses id None) ∙ ap (λ k. use_at (put id None uses) k) (sym same) ∙ e))
+          | inl same ↦ absurd (none-is-some w (sym (at-put uses id None) ∙ ap (λ k. use_at (put_at_number id None uses) k) (sym same) ∙ e))
           | inr other ↦ kept.owned n w (sym (beside-put uses id None n other) ∙ e)
         ];
       }
@@ -168,13 +168,13 @@ module _ (uses : List (Option Use)) (dropped : List ℕ) (r : Registry) (view : 
   pub seen-by : (f : Use → Use) (c d : Option Use) → c ≡ get_or uses id c → d ≡ option_map f c → seen (set uses id d) dropped ≡ on_use id f r
   seen-by f c d read e =
       let known : d ≡ option_map f (use_at uses id) = e ∙ ap (option_map f) (read ∙ index-is uses id c is-within) in
-      ap (λ us. seen us dropped) (put-within uses id d is-within ∙ ap (λ x. put id x uses) known) ∙ ap (on_use id f) view
+      ap (λ us. seen us dropped) (put-within uses id d is-within ∙ ap (λ x. put_at_number id x uses) known) ∙ ap (on_use id f) view
 
   pub kept-by : (f : Use → Use) (keeps : (u : Use) → (f u).root ≡ u.root) (vacant owners : List ℕ) (vacant_room dropped_room : ℕ) → IsKeptRegistry uses vacant dropped owners vacant_room dropped_room
       → (c d : Option Use) → c ≡ get_or uses id c → d ≡ option_map f c → IsKeptRegistry (set uses id d) vacant dropped owners vacant_room dropped_room
   kept-by f keeps vacant owners vacant_room dropped_room kept c d read e =
       let u = is-known.0 in
-      let changed : put id (Some (f u)) uses ≡ set uses id d = ap (λ x. put id x uses) (sym (e ∙ ap (option_map f) (read-chain c read))) ∙ sym (put-within uses id d is-within) in
+      let changed : put_at_number id (Some (f u)) uses ≡ set uses id d = ap (λ x. put_at_number id x uses) (sym (e ∙ ap (option_map f) (read-chain c read))) ∙ sym (put-within uses id d is-within) in
       subst (λ us. IsKeptRegistry us vacant dropped owners vacant_room dropped_room) changed (kept-changed uses vacant dropped owners vacant_room dropped_room kept id u (f u) is-known.1 (keeps u))
 
 -- ---- one more chain
@@ -189,10 +189,10 @@ pub record IsNew (uses now : List (Option Use)) (vacant left dropped : List ℕ)
   pub none : use_at uses id ≡ None
   pub fresh : IsNumberIn dropped id → ⊥
   pub within : id < length now
-  pub made : (c : Option Use) → set now id c ≡ put id c uses
+  pub made : (c : Option Use) → set now id c ≡ put_at_number id c uses
   pub once : AreOnce (left ++ dropped)
   pub idle : (n : ℕ) → IsNumberIn (left ++ dropped) n → IsNumberIn (vacant ++ dropped) n × n ≢ id
-  pub long : (c : Option Use) (room : ℕ) → length uses ≤ room → (vacant ≡ [] → length uses < room) → length (put id c uses) ≤ room
+  pub long : (c : Option Use) (room : ℕ) → length uses ≤ room → (vacant ≡ [] → length uses < room) → length (put_at_number id c uses) ≤ room
 
 pub taken-new : (uses now : List (Option Use)) (vacant left dropped owners : List ℕ) (vacant_room dropped_room id : ℕ) → IsKeptRegistry uses vacant dropped owners vacant_room dropped_room → IsTakenNumber uses now vacant left id
     → IsNew uses now vacant left dropped id

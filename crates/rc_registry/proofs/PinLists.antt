@@ -4,7 +4,7 @@ use Rattle.std.proofs.Math.ListN.{set}
 use Rattle.std.specs.Prelude.{is_none}
 use Rattle.std.specs.List.{list_all}
 use Rattle.std.proofs.lemmas.List.{take_all, append-nil}
-use Rattle.rc_core.specs.Steps.{free_number, pin_at, pinned, released, renumbered}
+use Rattle.rc_core.specs.Steps.{free_number, number_after_removal, pin_at, pins_with, pins_without}
 use Rattle.rc_registry.specs.Registry.{AreFree}
 
 pub pin_at-is : (pins : List (Option ℕ)) (i : ℕ) → get_or pins i None ≡ pin_at pins i
@@ -18,19 +18,19 @@ pin_at-there [] i taken = absurd (cc)
 pin_at-there (p ∷ ps) zero taken = omega arith
 pin_at-there (p ∷ ps) (suc i) taken = omega (arith, pin_at-there ps i taken)
 
-pub released-is : (pins : List (Option ℕ)) (i : ℕ) → set pins i None ≡ released i pins
+pub released-is : (pins : List (Option ℕ)) (i : ℕ) → set pins i None ≡ pins_without i pins
 released-is [] i = refl
 released-is (p ∷ ps) zero = refl
 released-is (p ∷ ps) (suc i) = ap (λ qs. p ∷ qs) (released-is ps i)
 
 -- at the least free number within the list
-pub pinned-within : (version : ℕ) (pins : List (Option ℕ)) → free_number pins < length pins → set pins (free_number pins) (Some version) ≡ pinned version pins
+pub pinned-within : (version : ℕ) (pins : List (Option ℕ)) → free_number pins < length pins → set pins (free_number pins) (Some version) ≡ pins_with version pins
 pinned-within version [] lt = absurd (omega arith)
 pinned-within version (None ∷ ps) lt = refl
 pinned-within version (Some p ∷ ps) lt = ap (λ qs. Some p ∷ qs) (pinned-within version ps (omega arith))
 
 -- no number of the list is free
-pub pinned-behind : (version : ℕ) (pins : List (Option ℕ)) → length pins ≤ free_number pins → pins ++ Some version ∷ [] ≡ pinned version pins
+pub pinned-behind : (version : ℕ) (pins : List (Option ℕ)) → length pins ≤ free_number pins → pins ++ Some version ∷ [] ≡ pins_with version pins
 pinned-behind version [] le = refl
 pinned-behind version (None ∷ ps) le = absurd (omega arith)
 pinned-behind version (Some p ∷ ps) le = ap (λ qs. Some p ∷ qs) (pinned-behind version ps (omega arith))
@@ -41,13 +41,13 @@ free_number-le (None ∷ ps) = omega arith
 free_number-le (Some p ∷ ps) = omega (arith, free_number-le ps)
 
 -- a newer version has a number less by one
-pub renumbered-newer : (n j : ℕ) → n < j → j - 1 ≡ renumbered n j
+pub renumbered-newer : (n j : ℕ) → n < j → j - 1 ≡ number_after_removal n j
 renumbered-newer zero zero lt = absurd (omega arith)
 renumbered-newer zero (suc j) lt = omega arith
 renumbered-newer (suc n) zero lt = absurd (omega arith)
 renumbered-newer (suc n) (suc j) lt = let h = renumbered-newer n j (omega arith) in omega (arith, h)
 
-pub renumbered-older : (n j : ℕ) → j ≤ n → j ≡ renumbered n j
+pub renumbered-older : (n j : ℕ) → j ≤ n → j ≡ number_after_removal n j
 renumbered-older zero zero le = refl
 renumbered-older zero (suc j) le = absurd (omega arith)
 renumbered-older (suc n) zero le = refl

@@ -3,7 +3,7 @@ use Rattle.std.specs.Prelude.{◌≡◌, ◌<◌, ◌⊎◌, ℕ, zero, suc, Boo
 use Rattle.lsa_region.specs.declared.end.Root.{Root}
 use Rattle.rc_core.specs.declared.entries.ChainKind.{ChainKind}
 use Rattle.rc_core.specs.Chains.{IsPinned}
-use Rattle.rc_core.specs.Steps.{pinned, released, renumbered}
+use Rattle.rc_core.specs.Steps.{number_after_removal, pins_with, pins_without}
 pub use Rattle.rc_registry.specs.declared.uses.Use.{Use}
 
 -- by its number each chain; and the numbers of chains that are gone and were not yet told, the first one first
@@ -16,11 +16,11 @@ abbrev pub use_at : List (Option Use) → ℕ → Option Use
 use_at uses id = slice_index_or uses id None
 
 -- a list with something else at a number, longer where it did not reach it
-abbrev pub put : {X : Type 0} → ℕ → Option X → List (Option X) → List (Option X)
-put zero x [] = x ∷ []
-put zero x (y ∷ ys) = x ∷ ys
-put (suc n) x [] = None ∷ put n x []
-put (suc n) x (y ∷ ys) = y ∷ put n x ys
+abbrev pub put_at_number : {X : Type 0} → ℕ → Option X → List (Option X) → List (Option X)
+put_at_number zero x [] = x ∷ []
+put_at_number zero x (y ∷ ys) = x ∷ ys
+put_at_number (suc n) x [] = None ∷ put_at_number n x []
+put_at_number (suc n) x (y ∷ ys) = y ∷ put_at_number n x ys
 
 -- a chain that is found by its key, not under update, and pinned by nobody
 abbrev pub new_use : Root → ChainKind → Use
@@ -36,7 +36,7 @@ HasRoot r root id = IsSomeAnd (use_at r.uses id) (λ u. u.root ≡ root)
 
 -- the chain of a number is another one, or its use another; all else is as it was
 abbrev pub with_use : ℕ → Option Use → Registry → Registry
-with_use id u r = record { uses = put id u r.uses; dropped = r.dropped }
+with_use id u r = record { uses = put_at_number id u r.uses; dropped = r.dropped }
 
 -- something done to the use of the chain of a number; all else is as it was
 abbrev pub on_use : ℕ → (Use → Use) → Registry → Registry
@@ -45,8 +45,8 @@ on_use id f r = with_use id (option_map f (use_at r.uses id)) r
 -- ---- what is done to a use
 
 -- no longer found by its key, and not under update
-abbrev pub detached : Use → Use
-detached u = record { root = u.root; kind = u.kind; attached = false; updating = false; passed = u.passed; pins = u.pins }
+abbrev pub detached_use : Use → Use
+detached_use u = record { root = u.root; kind = u.kind; attached = false; updating = false; passed = u.passed; pins = u.pins }
 
 -- under update or not
 abbrev pub set_updating : Bool → Use → Use
@@ -62,15 +62,15 @@ set_pins pins u = record { root = u.root; kind = u.kind; attached = u.attached; 
 
 -- with one snapshot of a version more
 abbrev pub with_pin : ℕ → Use → Use
-with_pin version u = set_pins (pinned version u.pins) u
+with_pin version u = set_pins (pins_with version u.pins) u
 
 -- with the snapshot of a number taken back
 abbrev pub without_pin : ℕ → Use → Use
-without_pin pin u = set_pins (released pin u.pins) u
+without_pin pin u = set_pins (pins_without pin u.pins) u
 
 -- with the pins as they are once the version of a number is gone
 abbrev pub without_version : ℕ → Use → Use
-without_version version u = set_pins (list_map (option_map (renumbered version)) u.pins) u
+without_version version u = set_pins (list_map (option_map (number_after_removal version)) u.pins) u
 
 -- nobody pins a version
 abbrev pub AreFree : List (Option ℕ) → Type 0

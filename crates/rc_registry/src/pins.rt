@@ -3,7 +3,7 @@
 ghost use Rattle.std.specs.Prelude.{◌≡◌, ◌↔◌, [], IfOk, IsSome, IsTrue, OnErr, OnOk, is_none, option_map, map};
 ghost use Rattle.std.specs.List.{list_all};
 ghost use Rattle.rc_core.specs.Chains.{IsPinned};
-ghost use Rattle.rc_core.specs.Steps.{free_number, pin_at, pinned, released, renumbered};
+ghost use Rattle.rc_core.specs.Steps.{free_number, number_after_removal, pin_at, pins_with, pins_without};
 ghost use Rattle.rc_registry.specs.Registry.{AreFree};
 
 use std::alloc::{AllocError, Global};
@@ -85,7 +85,7 @@ impl Pins {
     /// One snapshot of a version more, at the least number that is free. The only error is want of memory, which changes nothing.
     pub(crate) fn pin(&mut self, version: u64) -> Result<u64, AllocError>
         ensures number { IfOk result (λ n. n ≡ free_number self.old) }
-        ensures pinned { OnOk result (self.new ≡ pinned version self.old) }
+        ensures pinned { OnOk result (self.new ≡ pins_with version self.old) }
         ensures err { OnErr result (self.new ≡ self.old) }
     {
         let number = self.free_number();
@@ -100,14 +100,14 @@ impl Pins {
     /// Takes the snapshot of a number back; the other snapshots keep theirs.
     pub(crate) fn release(&mut self, pin: u64)
         requires { IsSome (pin_at self.old pin) }
-        ensures { self.new ≡ released pin self.old }
+        ensures { self.new ≡ pins_without pin self.old }
     {
         self.versions[pin as usize] = None;
     }
 
     /// The version of a number is gone: the newer ones have numbers less by one.
     pub(crate) fn renumber(&mut self, version: u64)
-        ensures { self.new ≡ map (option_map (renumbered version)) self.old }
+        ensures { self.new ≡ map (option_map (number_after_removal version)) self.old }
     {
         renumber_each(&mut self.versions, version);
     }
@@ -122,7 +122,7 @@ fn hold_nothing(versions: &[Option<u64>]) -> bool
 
 // Gives each pinned version the number that it has once another one is gone.
 fn renumber_each(pins: &mut [Option<u64>], version: u64)
-    ensures { pins.new ≡ map (option_map (renumbered version)) pins.old }
+    ensures { pins.new ≡ map (option_map (number_after_removal version)) pins.old }
 {
     for pin in pins.iter_mut() {
         *pin = renumbered(version, *pin);
@@ -131,7 +131,7 @@ fn renumber_each(pins: &mut [Option<u64>], version: u64)
 
 // The number that a pinned version has once another one is gone.
 fn renumbered(version: u64, pin: Option<u64>) -> Option<u64>
-    ensures { result ≡ option_map (renumbered version) pin }
+    ensures { result ≡ option_map (number_after_removal version) pin }
 {
     match pin {
         Some(pinned) if pinned > version => Some(pinned - 1),

@@ -6,7 +6,7 @@ ghost use Rattle.std.specs.VecDeque.{deque_capacity};
 ghost use Rattle.rc_core.specs.Chains.{IsPinned};
 ghost use Rattle.rc_core.specs.Steps.{free_number, pin_at};
 ghost use Rattle.rc_registry.specs.calls.Kept.{IsLonger, IsTakenNumber};
-ghost use Rattle.rc_registry.specs.Registry.{AreFree, AreOnce, HasRoot, IsAfter, IsNext, IsNumberIn, IsThere, detached, new_use, on_use, put, set_passed, set_updating, use_at, with_pin, with_use, without_pin, without_version};
+ghost use Rattle.rc_registry.specs.Registry.{AreFree, AreOnce, HasRoot, IsAfter, IsNext, IsNumberIn, IsThere, detached_use, new_use, on_use, put_at_number, set_passed, set_updating, use_at, with_pin, with_use, without_pin, without_version};
 
 use crate::uses::{self, Use, new_use};
 use lsa_region::Root;
@@ -154,7 +154,7 @@ impl Registry {
     /// A chain is no longer found by its key, and not under update.
     pub fn detach(&mut self, id: u64)
         requires { IsThere self.old id }
-        ensures { self.new ≡ on_use id detached self.old }
+        ensures { self.new ≡ on_use id detached_use self.old }
     {
         uses::detach(&mut self.uses[id as usize]);
     }
@@ -204,7 +204,7 @@ impl Registry {
     /// A chain is gone; its number is to be told.
     pub fn remove(&mut self, id: u64)
         requires { IsThere self.old id }
-        ensures { self.new ≡ record { uses = put id None self.old.uses; dropped = self.old.dropped ++ id ∷ [] } }
+        ensures { self.new ≡ record { uses = put_at_number id None self.old.uses; dropped = self.old.dropped ++ id ∷ [] } }
     {
         self.uses[id as usize] = None;
         self.dropped.push_back_reserved(id);

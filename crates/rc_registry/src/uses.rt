@@ -2,7 +2,7 @@
 
 ghost use Rattle.std.specs.Prelude.{◌≡◌, IfOk, IfSome, IsSome, IsSomeAnd, OnErr, OnOk, option_map};
 ghost use Rattle.rc_core.specs.Steps.{free_number, pin_at};
-ghost use Rattle.rc_registry.specs.Registry.{detached, new_use, set_passed, set_updating, with_pin, without_pin, without_version};
+ghost use Rattle.rc_registry.specs.Registry.{detached_use, new_use, set_passed, set_updating, with_pin, without_pin, without_version};
 
 use crate::pins::Pins;
 use lsa_region::Root;
@@ -42,7 +42,7 @@ pub(crate) fn new_use(alloc: Global, root: Root, kind: ChainKind) -> Use
 
 /// A chain is no longer found by its key, and not under update.
 pub(crate) fn detach(chain: &mut Option<Use>)
-    ensures { chain.new ≡ option_map detached chain.old }
+    ensures { chain.new ≡ option_map detached_use chain.old }
 {
     if let Some(chain) = chain {
         chain.attached = false;

@@ -12,7 +12,7 @@ use Rattle.rc_core.specs.laws.Placed.{ahead_of, not_end}
 use Rattle.rc_partition.specs.Versions.{bytes_at, entries_bytes, statics_bytes, version_bytes}
 use Rattle.rc_partition.specs.laws.Lists.{elem-none}
 use Rattle.rc_registry.specs.Registry.{AreFree}
-use Rattle.rc_memory.specs.Changes.{OfVersion, member}
+use Rattle.rc_memory.specs.Changes.{OfVersion, member_at}
 use Rattle.rc_memory.specs.Kept.{IsSoundChain, present}
 use Rattle.rc_memory.specs.Memory.{IsVersionAt, KeptChain, Memory, chain_at}
 use Rattle.rc_memory.specs.Recency.{HasObject, IsRecency, MustBeListed}
@@ -69,12 +69,12 @@ one-settled m sound one id k there cached = by k.chain.updating refl
 
 module _ (m : Memory) (rule : IsRecency m) (versions : (i j : ℕ) → OfVersion m i j (λ k v. IsVersion v)) (settled : NoUpdateStands m) (none : m.recency ≡ []) where
   module _ (id : ℕ) (k : KeptChain) (there : chain_at m id ≡ Some k) (cached : k.chain.kind ≡ Cache) where
-    unlisted : (j : ℕ) (at : Option Pos) → Contains m.recency (member id j at) → ⊥
-    unlisted j at on = elem-none (member id j at) (subst (λ l. Contains l (member id j at)) none on)
+    unlisted : (j : ℕ) (at : Option Pos) → Contains m.recency (member_at id j at) → ⊥
+    unlisted j at on = elem-none (member_at id j at) (subst (λ l. Contains l (member_at id j at)) none on)
 
     -- an object that is not an end dummy would be listed
     never : (j : ℕ) (v : Version) (at : Option Pos) → IsVersionAt k.chain.versions j v → HasObject v at → at ≢ Some end_position → ⊥
-    never j v at number object inner = unlisted j at (rule.complete (member id j at) (there_at (λ q. MustBeListed q.chain j at) (chain_at m id) k (record {
+    never j v at number object inner = unlisted j at (rule.complete (member_at id j at) (there_at (λ q. MustBeListed q.chain j at) (chain_at m id) k (record {
       cached = cached;
       version = v;
       number = number;

@@ -18,7 +18,7 @@ use Rattle.rc_memory.specs.laws.Places.{same_some}
 use Rattle.rc_filler.specs.Writes.{AreSmall}
 use Rattle.rc_chain.specs.Lives.{IsChainDropped}
 use Rattle.rc_filler.specs.Evictions.{AreEvicted, evicted_of}
-use Rattle.rc_entries.specs.Filling.{IsEntryOpened, chain_opened, given}
+use Rattle.rc_entries.specs.Filling.{IsEntryOpened, chain_opened, filled_statics}
 use Rattle.rc_entries.specs.Detached.{IsDetached}
 use Rattle.rc_filler.specs.Stands.{HasCacheSnapshot, StandsForWrites}
 use Rattle.rc_row_cache.specs.Saying.{Below, CacheSays, PinsAlike, SaysBelow, phase_pinned, with_below}
@@ -101,8 +101,8 @@ module _ (schema : SchemaValue) (below : Below) where
 
   pub opened-says : ((below : ℕ → List Mutation) (p : Place) (pt : Option Tomb) (statics : Option Row) (phase : ℕ) → pt ≡ source_at_head (below phase) → joined_row (option_to_list statics) ≡ source_at_static (below phase) → IsChainContinuous below (at_place p (chain_opened pt statics phase).chain)) →
       ((p : Place) (pt : Option Tomb) (statics : Option Row) (phase : ℕ) → IsChain (at_place p (chain_opened pt statics phase).chain)) →
-      ((writes : List Mutation) → joined_row (option_to_list (given (source_at_static writes))) ≡ source_at_static writes) →
-      (id phase : ℕ) (pt : Option Tomb) (statics : Option Row) (writes : ℕ → List Mutation) (old new : Memory) → IsEntryOpened id pt statics phase old new → All (ChangeFits schema) (writes phase) → pt ≡ source_at_head (writes phase) → statics ≡ given (source_at_static (writes phase)) →
+      ((writes : List Mutation) → joined_row (option_to_list (filled_statics (source_at_static writes))) ≡ source_at_static writes) →
+      (id phase : ℕ) (pt : Option Tomb) (statics : Option Row) (writes : ℕ → List Mutation) (old new : Memory) → IsEntryOpened id pt statics phase old new → All (ChangeFits schema) (writes phase) → pt ≡ source_at_head (writes phase) → statics ≡ filled_statics (source_at_static (writes phase)) →
       CacheSays schema below old → CacheSays schema (with_below id writes below) new
   opened-says chain form given_is id phase pt statics writes old new o fit head row h i = here-or-beside (λ n. (k : KeptChain) → chain_at new n ≡ Some k → k.chain.kind ≡ Cache → SaysBelow schema (with_below id writes below n) k) id i
       (λ k e kind. subst (λ (b : ℕ → List Mutation). SaysBelow schema b k) (sym (ap (λ b. cond b writes (below id)) (eq-eqb id id refl)))

@@ -4,7 +4,7 @@ use Rattle.rc_cell.specs.declared.rows.Row.{Row}
 use Rattle.rc_cell.specs.declared.writes.Tomb.{Tomb}
 use Rattle.rc_memory.specs.Memory.{Memory, with_dropped}
 use Rattle.rc_filler.specs.Snap.{Snap}
-use Rattle.rc_entries.specs.Filling.{given}
+use Rattle.rc_entries.specs.Filling.{filled_statics}
 use Rattle.rc_stream.specs.Did.{StepsInTurn}
 use Rattle.rc_filler.specs.Fills.{IsFillDone}
 use Rattle.rc_row_cache.specs.Calls.{IsEnterRefused, IsEntered, IsKeptOut, IsOpenRefused}
@@ -17,7 +17,7 @@ module _ (laws : UseLaws) (S : ℕ) where
   pub entered-leaves : (key : List ℕ) (pt : Option Tomb) (statics : Row) (phase : ℕ) (entries : List (List ℕ × ℕ)) (old new : Memory) (s : Snap) → IsEntered S key pt statics phase entries old new s → Leaves old new
   entered-leaves key pt statics phase entries old new s e =
       leaves-then old e.made new (made-leaves laws S old e.made e.room)
-      (leaves-then e.made e.between new (leaves-then e.made (with_dropped [] e.made) e.between (leaves-same e.made (with_dropped [] e.made) refl) (opened-leaves s.chain pt (given statics) phase (with_dropped [] e.made) e.between e.opened))
+      (leaves-then e.made e.between new (leaves-then e.made (with_dropped [] e.made) e.between (leaves-same e.made (with_dropped [] e.made) refl) (opened-leaves s.chain pt (filled_statics statics) phase (with_dropped [] e.made) e.between e.opened))
       (alike-leaves e.between new (alike-taken s.chain s.pin s.phase e.between new e.taken.taken)))
 
   pub kept-out-leaves : (old new : Memory) → IsKeptOut S old new → Leaves old new
@@ -25,7 +25,7 @@ module _ (laws : UseLaws) (S : ℕ) where
 
   open-refused-leaves : (pt : Option Tomb) (statics : Row) (phase : ℕ) (old new : Memory) → IsOpenRefused pt statics phase old new → Leaves old new
   open-refused-leaves pt statics phase old new (inl slots) = leaves-same old new (ap (λ (m : Memory). m.chains) slots.same)
-  open-refused-leaves pt statics phase old new (inr (id, opened)) = opened-leaves id pt (given statics) phase old new opened
+  open-refused-leaves pt statics phase old new (inr (id, opened)) = opened-leaves id pt (filled_statics statics) phase old new opened
 
   pub enter-refused-leaves : (pt : Option Tomb) (statics : Row) (phase : ℕ) (old new : Memory) → IsEnterRefused S pt statics phase old new → Leaves old new
   enter-refused-leaves pt statics phase old new (inl same) = leaves-same old new (ap (λ (m : Memory). m.chains) same)

@@ -18,7 +18,7 @@ use Rattle.rc_core.specs.laws.Losing.{each-one}
 use Rattle.rc_core.specs.laws.Updating.{relabelled}
 use Rattle.rc_memory.specs.Memory.{KeptChain, Member, on_shown, on_version_of}
 use Rattle.rc_filler.specs.Evictions.{evicted_at, evicted_of}
-use Rattle.rc_entries.specs.Filling.{given, on_newest_of}
+use Rattle.rc_entries.specs.Filling.{filled_statics, on_newest_of}
 use Rattle.rc_filler.specs.Stands.{HoldsRowsOf}
 use Rattle.rc_filler.specs.Fills.{IsPortion, OfGap, OfRow, OfStatics, Portion, filled_with}
 use Rattle.rc_row_cache.specs.Saying.{SaysBelow}
@@ -98,7 +98,7 @@ module _ (laws : ChainLaws) (schema : SchemaValue) (below : ℕ → List Mutatio
   portion-form : (q : Portion) (c : Shown) (j : ℕ) → MayPopulate (at_place Head c) j → IsChain (at_place Head c) → IsChain (at_place Head (on_newest_of (filled_with q) c))
   portion-form (OfGap from to tomb) c j may ch = laws.gap_form Head c j from to tomb may ch
   portion-form (OfRow key row tomb) c j may ch = laws.row_form Head c j (row_pos key) row tomb may (before-end key) ch
-  portion-form (OfStatics row) c j may ch = laws.statics_form Head c j (given row) may ch
+  portion-form (OfStatics row) c j may ch = laws.statics_form Head c j (filled_statics row) may ch
 
   pub filling-filled : (q : Portion) → IsPortion q → (j : ℕ) (k : KeptChain) → MayPopulate (at_place Head k.chain) j → IsFilling schema below j k → IsFilling schema below j (on_shown (on_newest_of (filled_with q)) k)
   filling-filled q whole j k may s = record {

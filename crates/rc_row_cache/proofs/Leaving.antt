@@ -3,7 +3,7 @@
 --     Leaves      so at each number
 use Rattle.std.proofs.Common.{inl, inr, ◌≡◌, ◌⊎◌, ◌≤◌, ℕ, List, Option, Some, None, length, refl, sym, ap, ◌∙◌, subst, slice_index_or, le_refl, arith}
 use Rattle.rc_core.specs.declared.entries.ChainKind.TheVariants.{Cache, Memtable}
-use Rattle.rc_registry.specs.Registry.{put}
+use Rattle.rc_registry.specs.Registry.{put_at_number}
 use Rattle.rc_memory.specs.Memory.{KeptChain, Member, Memory, chain_at, on_chain}
 use Rattle.rc_memory.specs.Room.{chain_bytes}
 use Rattle.rc_filler.specs.Evictions.{AreEvicted, evicted_of}
@@ -85,11 +85,11 @@ module _ (old new : Memory) where
   At i = (n : KeptChain) → chain_at new i ≡ Some n → IsLeft (chain_at old i) n
 
   -- a chain is gone
-  pub leaves-gone : (id : ℕ) → new.chains ≡ put id None old.chains → Leaves old new
+  pub leaves-gone : (id : ℕ) → new.chains ≡ put_at_number id None old.chains → Leaves old new
   leaves-gone id is i = here-or-beside At id i (λ n e. absurd (none-is-none n (sym (chain-here old new id None is) ∙ e))) (λ ne. beside i (chain-beside old new id None is i ne))
 
   -- one of the cache came to be
-  pub leaves-opened : (id : ℕ) (k : KeptChain) → new.chains ≡ put id (Some k) old.chains → IsOneOfCache k → Leaves old new
+  pub leaves-opened : (id : ℕ) (k : KeptChain) → new.chains ≡ put_at_number id (Some k) old.chains → IsOneOfCache k → Leaves old new
   leaves-opened id k is one i = here-or-beside At id i
       (λ n e. inl (subst IsOneOfCache (let same : k ≡ n = cc (sym (chain-here old new id (Some k) is) ∙ e) in same) one))
       (λ ne. beside i (chain-beside old new id (Some k) is i ne))

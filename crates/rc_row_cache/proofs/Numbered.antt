@@ -4,7 +4,7 @@ use Rattle.std.specs.Option.{option_map}
 use Rattle.std.specs.Prelude.{Contains}
 use Rattle.lsa_pool.specs.laws.Usages.{decided}
 use Rattle.rc_partition.specs.laws.Lists.{elem-cases, elem-first, elem-later, elem-none}
-use Rattle.rc_registry.specs.Registry.{IsNumberIn, put}
+use Rattle.rc_registry.specs.Registry.{IsNumberIn, put_at_number}
 use Rattle.rc_memory.specs.Memory.{KeptChain, Memory, chain_at, on_chain}
 use Rattle.rc_memory.specs.laws.Put.{put-at, put-beside}
 
@@ -37,7 +37,7 @@ number-or (n ∷ ids) id = elim (decided n id) [
   | inr ne ↦ elim (number-or ids id) [ inl later ↦ inl (inr later) | inr out ↦ inr (λ on. elim on [ inl e ↦ ne e | inr later ↦ out later ]) ]
 ]
 
-module _ (old new : Memory) (id : ℕ) (c : Option KeptChain) (is : new.chains ≡ put id c old.chains) where
+module _ (old new : Memory) (id : ℕ) (c : Option KeptChain) (is : new.chains ≡ put_at_number id c old.chains) where
   pub chain-here : chain_at new id ≡ c
   chain-here = ap (λ cs. slice_index_or cs id None) is ∙ put-at old.chains id c
 

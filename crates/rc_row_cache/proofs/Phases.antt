@@ -15,7 +15,7 @@ use Rattle.rc_registry.specs.Registry.{IsNumberIn}
 use Rattle.rc_memory.specs.Kept.{IsSoundChain}
 use Rattle.rc_memory.specs.Memory.{KeptChain, Memory, chain_at, on_shown, shown_detached}
 use Rattle.rc_memory.specs.laws.Places.{same_some}
-use Rattle.rc_chain.specs.Lives.{relabelled}
+use Rattle.rc_chain.specs.Lives.{relabelled_chain}
 use Rattle.rc_chain.specs.laws.PlaceBeside.{relabelled-by}
 use Rattle.rc_entries.specs.Invalidated.{IsInvalidated}
 use Rattle.rc_filler.specs.Stands.{HoldsRowsOf}
@@ -26,13 +26,13 @@ use Rattle.rc_row_cache.proofs.Cache.{each-says, pins-at, same-source, says-deta
 -- what is known of detached chains, and of those whose newest version gets another phase
 pub record PhaseLaws : Type 0 where
   pub chain : (below : ℕ → List Mutation) (p : Place) (k : KeptChain) (newest phase : ℕ) → suc newest ≡ length k.chain.versions → IsChain (at_place p k.chain) → (k.chain.attached ≡ true → SameSource (below (phase_at k.chain.versions newest)) (below phase)) →
-      IsChainContinuous below (at_place p k.chain) → IsChainContinuous below (at_place p (relabelled phase k).chain)
-  pub form : (p : Place) (k : KeptChain) (newest phase : ℕ) → suc newest ≡ length k.chain.versions → IsChain (at_place p k.chain) → IsChain (at_place p (relabelled phase k).chain)
+      IsChainContinuous below (at_place p k.chain) → IsChainContinuous below (at_place p (relabelled_chain phase k).chain)
+  pub form : (p : Place) (k : KeptChain) (newest phase : ℕ) → suc newest ≡ length k.chain.versions → IsChain (at_place p k.chain) → IsChain (at_place p (relabelled_chain phase k).chain)
   pub alike : (below other : ℕ → List Mutation) (p : Place) (c : Shown) → IsChain (at_place p c) → ((j : ℕ) → j < length c.versions → SameSource (below (phase_at c.versions j)) (other (phase_at c.versions j))) → IsChainContinuous below (at_place p c) → IsChainContinuous other (at_place p c)
   pub detached_chain : (below : ℕ → List Mutation) (p q : Place) (c : Shown) → IsChain (at_place p c) → IsChainContinuous below (at_place p c) → IsChainContinuous below (at_place q (shown_detached c))
   pub detached_form : (p q : Place) (c : Shown) → IsChain (at_place p c) → IsChain (at_place q (shown_detached c))
   pub gone : (ids : List ℕ) (phase id : ℕ) (k : KeptChain) (old new : Memory) → IsInvalidated ids phase old new → IsNumberIn ids id → chain_at old id ≡ Some k → chain_at new id ≡ Some (on_shown shown_detached k)
-  pub others : (ids : List ℕ) (phase id : ℕ) (k : KeptChain) (old new : Memory) → IsInvalidated ids phase old new → (IsNumberIn ids id → ⊥) → chain_at old id ≡ Some k → chain_at new id ≡ Some (relabelled phase k)
+  pub others : (ids : List ℕ) (phase id : ℕ) (k : KeptChain) (old new : Memory) → IsInvalidated ids phase old new → (IsNumberIn ids id → ⊥) → chain_at old id ≡ Some k → chain_at new id ≡ Some (relabelled_chain phase k)
   pub none : (ids : List ℕ) (phase id : ℕ) (old new : Memory) → IsInvalidated ids phase old new → chain_at old id ≡ None → chain_at new id ≡ None
 
 -- ---- versions, the newest with another phase
@@ -72,7 +72,7 @@ module _ (laws : PhaseLaws) (phase : ℕ) (below : ℕ → List Mutation) (k : K
   last : suc newest ≡ length k.chain.versions
   last = let some = sound.some in omega (arith, some)
 
-  pub says-relabelled : (schema : SchemaValue) → SaysBelow schema below k → SaysBelow schema below (relabelled phase k)
+  pub says-relabelled : (schema : SchemaValue) → SaysBelow schema below k → SaysBelow schema below (relabelled_chain phase k)
   says-relabelled schema s = record {
     settled = relabelled-by (λ now. now.chain.updating ≡ k.chain.updating) phase k (λ _. refl) refl ∙ s.settled;
     form = laws.form Head k newest phase last s.form;
@@ -81,7 +81,7 @@ module _ (laws : PhaseLaws) (phase : ℕ) (below : ℕ → List Mutation) (k : K
   }
 
   -- below each version that a snapshot pins lies what says the same
-  pub pinned-alike : (j : ℕ) → IsPinned k.chain.pins j → SameSource (below (phase_at k.chain.versions j)) (below (phase_at (relabelled phase k).chain.versions j))
+  pub pinned-alike : (j : ℕ) → IsPinned k.chain.pins j → SameSource (below (phase_at k.chain.versions j)) (below (phase_at (relabelled_chain phase k).chain.versions j))
   pinned-alike j on = relabelled-by (λ now. SameSource (below (phase_at k.chain.versions j)) (below (phase_at now.chain.versions j))) phase k
       (λ attached. elim (last-or-lower j (length k.chain.versions) (sound.pins j on)) [
         | inl e ↦ subst (λ p. SameSource (below (phase_at k.chain.versions j)) (below p)) (sym (newest-phase phase k.chain.versions j e)) (same attached j e)
@@ -95,7 +95,7 @@ module _ (laws : PhaseLaws) (below : Below) (ids : List ℕ) (phase : ℕ) (old 
   sound-at : (id : ℕ) (k : KeptChain) → chain_at old id ≡ Some k → IsSoundChain k.chain
   sound-at id k e = subst (λ (o : Option KeptChain). IfSome o (λ q. IsSoundChain q.chain)) e (sound id)
 
-  relabelled-kind : (k : KeptChain) → (relabelled phase k).chain.kind ≡ k.chain.kind
+  relabelled-kind : (k : KeptChain) → (relabelled_chain phase k).chain.kind ≡ k.chain.kind
   relabelled-kind k = relabelled-by (λ now. now.chain.kind ≡ k.chain.kind) phase k (λ _. refl) refl
 
   pub invalidated-says : (schema : SchemaValue) → CacheSays schema below old → CacheSays schema below new
@@ -104,7 +104,7 @@ module _ (laws : PhaseLaws) (below : Below) (ids : List ℕ) (phase : ℕ) (old 
       (λ k was. elim (number-or ids id) [
         | inl on ↦ (let is = same_some (on_shown shown_detached k) now (sym (laws.gone ids phase id k old new i on was) ∙ e) in
             (k, was, ap (λ (q : KeptChain). q.chain.kind) is ∙ kind, λ s. subst (SaysBelow schema (below id)) is (says-detached schema below laws.detached_chain laws.detached_form (below id) k s)))
-        | inr off ↦ (let is = same_some (relabelled phase k) now (sym (laws.others ids phase id k old new i off was) ∙ e) in
+        | inr off ↦ (let is = same_some (relabelled_chain phase k) now (sym (laws.others ids phase id k old new i off was) ∙ e) in
             let cached = sym (relabelled-kind k) ∙ (ap (λ (q : KeptChain). q.chain.kind) is ∙ kind) in
             (k, was, cached, λ s. subst (SaysBelow schema (below id)) is (says-relabelled laws phase (below id) k (sound-at id k was) (λ attached newest last. since id k was cached attached off newest last) schema s)))
       ]))
@@ -113,7 +113,7 @@ module _ (laws : PhaseLaws) (below : Below) (ids : List ℕ) (phase : ℕ) (old 
   invalidated-pins id pin h = pins-at (below id) id pin old new (λ k j there on. elim (number-or ids id) [
     | inl gone ↦ (on_shown shown_detached k, laws.gone ids phase id k old new i gone there, refl, on, same-source (below id (phase_at k.chain.versions j)))
     | inr off ↦ (
-      relabelled phase k,
+      relabelled_chain phase k,
       laws.others ids phase id k old new i off there,
       relabelled-kind k,
       relabelled-by (λ now. pin_at now.chain.pins pin ≡ Some j) phase k (λ _. on) on,

@@ -27,16 +27,16 @@ use Rattle.rc_core.specs.declared.entries.Entry.{Entry}
 use Rattle.rc_core.specs.declared.entries.Flag.TheVariants.{Known}
 use Rattle.rc_core.specs.declared.entries.Mark.{Mark}
 use Rattle.rc_core.specs.AtPlace.{EachEntry}
-use Rattle.rc_core.specs.Change.{changed, drop_at, joined_onto, known_with, lose_last_gap, lost_mark, mark, split, with_gap, with_mark, with_row}
+use Rattle.rc_core.specs.Change.{drop_at, entry_changed, gap_split, joined_onto, known_with, lose_last_gap, lost_mark, mark, with_gap, with_mark, with_row}
 use Rattle.rc_core.specs.Continuity.{IsContinuous}
 use Rattle.rc_core.specs.SpotState.{SpotState, joined_state}
 use Rattle.rc_core.specs.Steps.{gap_filled, row_filled}
-use Rattle.rc_core.specs.Version.{Ascend, IsVersion, On, Version, end_position, found, seen, state_at, state_of, static_state}
+use Rattle.rc_core.specs.Version.{Ascend, IsVersion, On, Version, end_position, finding_in, finding_of, state_at, state_of, static_state}
 use Rattle.rc_core.specs.laws.Filling.{content-known, flagged-known}
 use Rattle.rc_core.specs.laws.Surgery.{seen-on}
 use Rattle.rc_core.specs.laws.Units.{nothing_first}
 use Rattle.rc_filler.specs.Evictions.{evicted_at}
-use Rattle.rc_entries.specs.Filling.{given}
+use Rattle.rc_entries.specs.Filling.{filled_statics}
 use Rattle.rc_filler.specs.Stands.{HasRowOf, HoldsRowsOf}
 use Rattle.rc_filler.specs.Fills.{IsPortion, OfGap, OfRow, OfStatics, Portion, filled_with}
 use Rattle.rc_row_cache.proofs.Lists.{each-map, last-gap-each, split-each, taken-each}
@@ -89,14 +89,14 @@ module _ (schema : SchemaValue) where
 
   -- ---- filled
 
-  over-gap : (from to : Pos) (tomb : Option Tomb) (e : Entry) → HasOrKnows schema e → HasOrKnows schema (changed (λ m. mark Known tomb) from to e)
+  over-gap : (from to : Pos) (tomb : Option Tomb) (e : Entry) → HasOrKnows schema e → HasOrKnows schema (entry_changed (λ m. mark Known tomb) from to e)
   over-gap from to tomb e (inl k) = inl k
   over-gap from to tomb e (inr k) = inr (elim (covers from to e.position) as (λ b. (cond b (mark Known tomb) e.at).flag ≡ Known) [ true ↦ refl | false ↦ k.0 ], k.1)
 
   gap-holds : (from to : Pos) (tomb : Option Tomb) (v : Version) → HoldsOrKnows schema v → HoldsOrKnows schema (gap_filled from to tomb v)
   gap-holds from to tomb v h = record {
-    entries = each-map (HasOrKnows schema) (HasOrKnows schema) (changed (λ m. mark Known tomb) from to) (over-gap from to tomb) (split to (split from v.entries))
-        (split-each (HasOrKnows schema) to (λ m. inl tt) (split from v.entries) (split-each (HasOrKnows schema) from (λ m. inl tt) v.entries h.entries));
+    entries = each-map (HasOrKnows schema) (HasOrKnows schema) (entry_changed (λ m. mark Known tomb) from to) (over-gap from to tomb) (gap_split to (gap_split from v.entries))
+        (split-each (HasOrKnows schema) to (λ m. inl tt) (gap_split from v.entries) (split-each (HasOrKnows schema) from (λ m. inl tt) v.entries h.entries));
     statics = h.statics;
   }
 
@@ -130,8 +130,8 @@ module _ (schema : SchemaValue) where
     row-holds : (v : Version) → HoldsOrKnows schema v → HoldsOrKnows schema (row_filled x row tomb v)
     row-holds v h = record {
       entries = each-map (IsJoined x) (HasOrKnows schema) (λ e. cond (eq_by_cmp pos_cmp x e.position) (with_mark (known_with tomb) e) e) know-one
-          (map (λ e. cond (eq_by_cmp pos_cmp x e.position) (with_row row e) e) (split x v.entries))
-          (each-map (HasOrKnows schema) (IsJoined x) (λ e. cond (eq_by_cmp pos_cmp x e.position) (with_row row e) e) join-one (split x v.entries) (split-each (HasOrKnows schema) x (λ m. inl tt) v.entries h.entries));
+          (map (λ e. cond (eq_by_cmp pos_cmp x e.position) (with_row row e) e) (gap_split x v.entries))
+          (each-map (HasOrKnows schema) (IsJoined x) (λ e. cond (eq_by_cmp pos_cmp x e.position) (with_row row e) e) join-one (gap_split x v.entries) (split-each (HasOrKnows schema) x (λ m. inl tt) v.entries h.entries));
       statics = h.statics;
     }
 
@@ -208,7 +208,7 @@ module _ (schema : SchemaValue) where
           cells-joined true rows (all-wider (IsStaticOf schema) (λ r. are_cells_of (length schema.statics) r.cells ≡ true) rows (λ r k. k.2) all),
         ) in (subst (IsStaticOf schema) said is, subst IsRow said (IsRow-joined_row rows))
 
-    pub given-static : IfSome (given (source_at_static writes)) (λ row. IsStaticOf schema row × IsRow row)
+    pub given-static : IfSome (filled_statics (source_at_static writes)) (λ row. IsStaticOf schema row × IsRow row)
     given-static = elim (is_written (source_at_static writes)) as (λ b. IfSome (cond b (Some (source_at_static writes)) None) (λ row. IsStaticOf schema row × IsRow row)) [
       | true ↦ static-of (source_at_static writes) refl
       | false ↦ tt
@@ -224,8 +224,8 @@ module _ (schema : SchemaValue) where
           IfSome o (λ row. (e.position ≡ row_pos e.position.prefix) × IsRowOf other e.position.prefix row × IsRow row) → IfSome o (λ row. (e.position ≡ row_pos e.position.prefix) × IsRowOf schema e.position.prefix row × IsRow row)
       known-row front e back parts known None has some k = tt
       known-row front e back parts known (Some row) has some k =
-          let state : state_at (On e.position) v ≡ state_of (found e.at e.row) = ap state_of (ap (seen (On e.position)) parts ∙ seen-on front e back (subst Ascend parts is.ascend)) in
-          let said : joined_state (state_of (found e.at e.row)) ≡ source_at writes e.position = sym (ap joined_state state) ∙ said-there e.position (ap (λ (c : SpotState). c.flag) state ∙ known) in
+          let state : state_at (On e.position) v ≡ state_of (finding_of e.at e.row) = ap state_of (ap (finding_in (On e.position)) parts ∙ seen-on front e back (subst Ascend parts is.ascend)) in
+          let said : joined_state (state_of (finding_of e.at e.row)) ≡ source_at writes e.position = sym (ap joined_state state) ∙ said-there e.position (ap (λ (c : SpotState). c.flag) state ∙ known) in
           let rows : (source_at writes e.position).0 ≡ row = ap (λ (a : Row × Option Tomb). a.0) (sym said) ∙ ap (λ o. joined_row (option_to_list o)) has ∙ joined_row-one row k.2 in
           (k.0, row-of e.position.prefix row (source_at writes e.position).1 (subst (λ y. source_at writes y ≡ (row, (source_at writes e.position).1)) k.0 (λ i. (rows i, (source_at writes e.position).1))) (some row refl), k.2)
 

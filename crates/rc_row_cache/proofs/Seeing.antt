@@ -5,7 +5,7 @@ use Rattle.std.specs.Prelude.{IsSomeAnd, IsTrue}
 use Rattle.rc_position.specs.declared.positions.Pos.{Pos}
 use Rattle.rc_mutation.specs.declared.mutations.Mutation.{Mutation}
 use Rattle.rc_core.specs.declared.entries.ChainKind.{ChainKind}
-use Rattle.rc_core.specs.Chain.{IsBare, IsKnown, content, flagged, states_at}
+use Rattle.rc_core.specs.Chain.{IsBare, IsKnown, content, has_flag, states_at}
 use Rattle.rc_core.specs.Chains.{AllInherit, upto}
 use Rattle.rc_core.specs.Continuity.{EachOf}
 use Rattle.rc_core.specs.StandsFor.{StandsFor}
@@ -48,8 +48,8 @@ module _ (before now : List Version) (same : AreSameButPhases before now) where
 
     was-known : IsKnown kind now x → IsKnown kind before x
     was-known k = record {
-      at = subst (λ cs. IsTrue (flagged kind cs)) (same-states (On x)) k.at;
-      gap = λ b. subst (λ cs. IsTrue (flagged kind cs)) (same-states (Behind x)) (k.gap (is-bare b));
+      at = subst (λ cs. IsTrue (has_flag kind cs)) (same-states (On x)) k.at;
+      gap = λ b. subst (λ cs. IsTrue (has_flag kind cs)) (same-states (Behind x)) (k.gap (is-bare b));
     }
 
   same-readable : (kind : ChainKind) → AreReadable kind before → AreReadable kind now

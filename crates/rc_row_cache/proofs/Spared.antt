@@ -8,7 +8,7 @@ use Rattle.rc_memory.specs.Recency.{IsRecency}
 use Rattle.rc_memory.specs.laws.Places.{same_some}
 use Rattle.rc_filler.specs.Snap.{Snap}
 use Rattle.rc_filler.specs.Evictions.{AreEvicted, IsRoomMade, evicted_of}
-use Rattle.rc_entries.specs.Filling.{IsEntryOpened, chain_opened, given, on_newest_of}
+use Rattle.rc_entries.specs.Filling.{IsEntryOpened, chain_opened, filled_statics, on_newest_of}
 use Rattle.rc_filler.specs.Fills.{IsFillDone, IsPortionFilled, Portion, filled_with}
 use Rattle.rc_row_cache.specs.Calls.{IsEntered, IsKeptOut}
 use Rattle.rc_row_cache.specs.Footprint.{memtable_bytes}
@@ -75,7 +75,7 @@ module _ (laws : SparingLaws) where
     pub entered-spared : (key : List ℕ) (pt : Option Tomb) (statics : Row) (phase : ℕ) (entries : List (List ℕ × ℕ)) (old new : Memory) (s : Snap) → IsRecency old → IsEntered S key pt statics phase entries old new s → AreSpared old new
     entered-spared key pt statics phase entries old new s rule e =
         spared-then old e.made new (made-spared old e.made rule e.room)
-        (spared-then e.made e.between new (spared-then e.made (with_dropped [] e.made) e.between (spared-same e.made (with_dropped [] e.made) refl) (opened-spared s.chain pt (given statics) phase (with_dropped [] e.made) e.between e.opened))
+        (spared-then e.made e.between new (spared-then e.made (with_dropped [] e.made) e.between (spared-same e.made (with_dropped [] e.made) refl) (opened-spared s.chain pt (filled_statics statics) phase (with_dropped [] e.made) e.between e.opened))
         (alike-at e.between new (alike-taken s.chain s.pin s.phase e.between new e.taken.taken) Memtable))
 
     pub kept-out-spared : (old new : Memory) → IsRecency old → IsKeptOut S old new → AreSpared old new

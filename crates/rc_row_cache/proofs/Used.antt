@@ -8,15 +8,15 @@ use Rattle.rc_cell.specs.declared.writes.Tomb.{Tomb}
 use Rattle.rc_position.specs.declared.positions.Pos.{Pos}
 use Rattle.rc_core.specs.declared.entries.ChainKind.TheVariants.{Cache}
 use Rattle.rc_core.specs.Chains.{IsPinned}
-use Rattle.rc_core.specs.Steps.{on_newest, pin_at, pinned, with_phase}
+use Rattle.rc_core.specs.Steps.{on_newest, pin_at, pins_with, with_phase}
 use Rattle.rc_core.specs.Version.{end_position}
 use Rattle.rc_core.specs.laws.Pins.{pin-is-pinned, pinned-by-number}
 use Rattle.rc_partition.specs.laws.Lists.{elem-cases, elem-first, elem-later, elem-left, elem-none}
-use Rattle.rc_registry.specs.Registry.{AreFree, IsNumberIn, put}
-use Rattle.rc_memory.specs.Changes.{member}
+use Rattle.rc_registry.specs.Registry.{AreFree, IsNumberIn, put_at_number}
+use Rattle.rc_memory.specs.Changes.{member_at}
 use Rattle.rc_memory.specs.Memory.{IsSnapshotTaken, KeptChain, Member, Memory, chain_at, on_chain, on_shown, shown_detached, shown_with, snapshot_number, with_chains, with_snapshot, without_snapshot}
 use Rattle.rc_memory.specs.laws.Places.{same_some}
-use Rattle.rc_filler.specs.Lives.{IsChainDropped, IsIdle, relabelled}
+use Rattle.rc_filler.specs.Lives.{IsChainDropped, IsIdle, relabelled_chain}
 use Rattle.rc_filler.specs.Evictions.{AreEvicted, evicted_of}
 use Rattle.rc_filler.specs.Partitions.{AreAsBefore, IsAsBefore}
 use Rattle.rc_entries.specs.Filling.{IsEntryOpened, chain_opened, on_newest_of, opened_places}
@@ -40,7 +40,7 @@ used-itself k = record { kind = refl; updating = refl; pins = refl }
 
 -- what was listed of a chain still is
 abbrev pub StaysListed : ℕ → List Member → List Member → Type 0
-StaysListed id old new = (j : ℕ) (at : Option Pos) → Contains old (member id j at) → Contains new (member id j at)
+StaysListed id old new = (j : ℕ) (at : Option Pos) → Contains old (member_at id j at) → Contains new (member_at id j at)
 
 idle-was : (m n : Memory) (id : ℕ) (k l : KeptChain) → IsUsedSame k l → StaysListed id m.recency n.recency → IsIdle n id l.chain → IsIdle m id k.chain
 idle-was m n id k l u listed i = record {
@@ -51,7 +51,7 @@ idle-was m n id k l u listed i = record {
 }
 
 list-same : (id : ℕ) (old new : List Member) → new ≡ old → StaysListed id old new
-list-same id old new is j at on = subst (λ l. Contains l (member id j at)) (sym is) on
+list-same id old new is j at on = subst (λ l. Contains l (member_at id j at)) (sym is) on
 
 -- ---- number by number
 
@@ -85,14 +85,14 @@ module _ (old new : Memory) where
         (λ ne. idle-beside i (changed-beside old new id f is i ne) (listed i ne)))
 
   -- another chain stands at a number, which is not to be dropped
-  pub used-put : (id : ℕ) (c : Option KeptChain) → new.chains ≡ put id c old.chains → ((k : KeptChain) → c ≡ Some k → IsIdle new id k.chain → ⊥) → ((i : ℕ) → i ≢ id → StaysListed i old.recency new.recency) → AreInUse old → AreInUse new
+  pub used-put : (id : ℕ) (c : Option KeptChain) → new.chains ≡ put_at_number id c old.chains → ((k : KeptChain) → c ≡ Some k → IsIdle new id k.chain → ⊥) → ((i : ℕ) → i ≢ id → StaysListed i old.recency new.recency) → AreInUse old → AreInUse new
   used-put id c is kept listed = used-by old new (λ i. here-or-beside (WasIdle old new) id i
       (λ n e idle. absurd (kept n (sym (chain-here old new id c is) ∙ e) idle))
       (λ ne. idle-beside i (chain-beside old new id c is i ne) (listed i ne)))
 
 -- ---- snapshots
 
-pinned-there : (version : ℕ) (pins : List (Option ℕ)) → IsPinned (pinned version pins) version
+pinned-there : (version : ℕ) (pins : List (Option ℕ)) → IsPinned (pins_with version pins) version
 pinned-there version [] = inl refl
 pinned-there version (None ∷ ps) = inl refl
 pinned-there version (Some p ∷ ps) = inr (pinned-there version ps)
@@ -165,7 +165,7 @@ module _ (laws : EvictionLaws) (went : List Member) (gone : List ℕ) (old new :
 
   -- of a chain of which nothing went, the list has what it had
   still-listed : (id : ℕ) → ((w : Member) → Contains went w → w.chain ≢ id) → StaysListed id old.recency new.recency
-  still-listed id none j at on = elim (Contains-append_cases went new.recency (member id j at) (subst (λ l. Contains l (member id j at)) a.recency on)) [ inl gone_first ↦ absurd (none (member id j at) gone_first refl) | inr left ↦ left ]
+  still-listed id none j at on = elim (Contains-append_cases went new.recency (member_at id j at) (subst (λ l. Contains l (member_at id j at)) a.recency on)) [ inl gone_first ↦ absurd (none (member_at id j at) gone_first refl) | inr left ↦ left ]
 
   -- a chain of which something went, and which stays, is not to be dropped
   busy : (w : Member) (id : ℕ) (k : KeptChain) → Contains went w → w.chain ≡ id → (Contains gone id → ⊥) → chain_at old id ≡ Some k → IsIdle new id k.chain → ⊥
@@ -188,20 +188,20 @@ module _ (laws : EvictionLaws) (went : List Member) (gone : List ℕ) (old new :
 
 -- ---- an entry is opened, and something is filled
 
-first-place : (id : ℕ) (statics : Option Row) → Contains (opened_places id statics) (member id 0 (Some end_position))
-first-place id None = elem-first (member id 0 (Some end_position)) []
-first-place id (Some row) = elem-first (member id 0 (Some end_position)) (member id 0 None ∷ [])
+first-place : (id : ℕ) (statics : Option Row) → Contains (opened_places id statics) (member_at id 0 (Some end_position))
+first-place id None = elem-first (member_at id 0 (Some end_position)) []
+first-place id (Some row) = elem-first (member_at id 0 (Some end_position)) (member_at id 0 None ∷ [])
 
 pub used-opened : (id : ℕ) (pt : Option Tomb) (statics : Option Row) (phase : ℕ) (old new : Memory) → IsEntryOpened id pt statics phase old new → AreInUse old → AreInUse new
 used-opened id pt statics phase old new o = used-put old new id (Some (chain_opened pt statics phase)) o.chains
-    (λ k e idle. idle.unlisted 0 (Some end_position) (subst (λ l. Contains l (member id 0 (Some end_position))) (sym o.recency) (Contains-append_right old.recency (opened_places id statics) (member id 0 (Some end_position)) (first-place id statics))))
-    (λ i ne j at on. subst (λ l. Contains l (member i j at)) (sym o.recency) (elem-left old.recency (opened_places id statics) (member i j at) on))
+    (λ k e idle. idle.unlisted 0 (Some end_position) (subst (λ l. Contains l (member_at id 0 (Some end_position))) (sym o.recency) (Contains-append_right old.recency (opened_places id statics) (member_at id 0 (Some end_position)) (first-place id statics))))
+    (λ i ne j at on. subst (λ l. Contains l (member_at i j at)) (sym o.recency) (elem-left old.recency (opened_places id statics) (member_at i j at) on))
 
 pub used-filled : (portion : Portion) (id pin : ℕ) (old new : Memory) → IsPortionFilled portion id pin old new → AreInUse old → AreInUse new
 used-filled portion id pin old new f = used-kept old new id (on_shown (on_newest_of (filled_with portion))) f.filled.chains
     (λ k e idle. (let same = same_some k f.snapshot.chain (sym e ∙ f.snapshot.there) in
     idle.unpinned f.snapshot.number (pin-is-pinned k.chain.pins pin f.snapshot.number (ap (λ (q : KeptChain). pin_at q.chain.pins pin) same ∙ f.snapshot.pinned))))
-    (λ i ne j at on. f.stay (member i j at) on)
+    (λ i ne j at on. f.stay (member_at i j at) on)
 
 -- ---- partitions leave the cache
 
@@ -217,7 +217,7 @@ used-detached id old new settled d = there-or-not (chain_at old id)
 -- what is left where partitions are invalidated
 pub record LeftLaws : Type 0 where
   pub gone : (ids : List ℕ) (phase id : ℕ) (k : KeptChain) (old new : Memory) → IsInvalidated ids phase old new → IsNumberIn ids id → chain_at old id ≡ Some k → chain_at new id ≡ Some (on_shown shown_detached k)
-  pub others : (ids : List ℕ) (phase id : ℕ) (k : KeptChain) (old new : Memory) → IsInvalidated ids phase old new → (IsNumberIn ids id → ⊥) → chain_at old id ≡ Some k → chain_at new id ≡ Some (relabelled phase k)
+  pub others : (ids : List ℕ) (phase id : ℕ) (k : KeptChain) (old new : Memory) → IsInvalidated ids phase old new → (IsNumberIn ids id → ⊥) → chain_at old id ≡ Some k → chain_at new id ≡ Some (relabelled_chain phase k)
   pub none : (ids : List ℕ) (phase id : ℕ) (old new : Memory) → IsInvalidated ids phase old new → chain_at old id ≡ None → chain_at new id ≡ None
   pub recency : (ids : List ℕ) (phase : ℕ) (old new : Memory) → IsInvalidated ids phase old new → ((id : ℕ) (k : KeptChain) → IsNumberIn ids id → chain_at old id ≡ Some k → k.chain.updating ≡ false) → new.recency ≡ old.recency
 
@@ -229,13 +229,13 @@ number-or (n ∷ ids) id = elim (decided n id) [
 ]
 
 module _ (laws : LeftLaws) (ids : List ℕ) (phase : ℕ) (old new : Memory) (settled : (id : ℕ) (k : KeptChain) → IsNumberIn ids id → chain_at old id ≡ Some k → k.chain.updating ≡ false) (h : IsInvalidated ids phase old new) where
-  relabelled-use : (k : KeptChain) → IsUsedSame k (relabelled phase k)
+  relabelled-use : (k : KeptChain) → IsUsedSame k (relabelled_chain phase k)
   relabelled-use k = elim k.chain.attached as (λ b. IsUsedSame k (cond b (on_shown (λ c. shown_with (on_newest (with_phase phase) c.versions) c) k) k)) [ true ↦ record { kind = refl; updating = refl; pins = refl } | false ↦ used-itself k ]
 
   left-use : (id : ℕ) (k n : KeptChain) → chain_at old id ≡ Some k → chain_at new id ≡ Some n → IsUsedSame k n
   left-use id k n there e = elim (number-or ids id) [
     | inl on ↦ subst (IsUsedSame k) (same_some (on_shown shown_detached k) n (sym (laws.gone ids phase id k old new h on there) ∙ e)) (detached-use k (settled id k on there))
-    | inr off ↦ subst (IsUsedSame k) (same_some (relabelled phase k) n (sym (laws.others ids phase id k old new h off there) ∙ e)) (relabelled-use k)
+    | inr off ↦ subst (IsUsedSame k) (same_some (relabelled_chain phase k) n (sym (laws.others ids phase id k old new h off there) ∙ e)) (relabelled-use k)
   ]
 
   pub used-invalidated : AreInUse old → AreInUse new
@@ -272,14 +272,14 @@ pin-or-free (None ∷ ps) = elim (pin-or-free ps) [
   | inr free ↦ inr (λ j on. elim on [ inl e ↦ cc e | inr later ↦ free j later ])
 ]
 
-pub in-use-is : (m : Memory) (id : ℕ) (k : KeptChain) → AreInUse m → chain_at m id ≡ Some k → k.chain.kind ≡ Cache → k.chain.updating ≡ false → ((j : ℕ) × IsPinned k.chain.pins j) ⊎ ((j : ℕ) × (at : Option Pos) × Contains m.recency (member id j at))
+pub in-use-is : (m : Memory) (id : ℕ) (k : KeptChain) → AreInUse m → chain_at m id ≡ Some k → k.chain.kind ≡ Cache → k.chain.updating ≡ false → ((j : ℕ) × IsPinned k.chain.pins j) ⊎ ((j : ℕ) × (at : Option Pos) × Contains m.recency (member_at id j at))
 in-use-is m id k used there cached settled = elim (pin-or-free k.chain.pins) [
   | inl pin ↦ inl pin
   | inr free ↦ elim (own-or-none m.recency id) [
     | inl own ↦ inr (own.0.version, own.0.position, subst (Contains m.recency) (λ i. record { chain = own.2 i; version = own.0.version; position = own.0.position }) own.1)
-    | inr none ↦ absurd (used id k there (record { cached = cached; settled = settled; unpinned = free; unlisted = λ j at on. none (member id j at) on refl }))
+    | inr none ↦ absurd (used id k there (record { cached = cached; settled = settled; unpinned = free; unlisted = λ j at on. none (member_at id j at) on refl }))
   ]
 ]
 
-pub in-use-by : (m : Memory) → ((id : ℕ) (k : KeptChain) → chain_at m id ≡ Some k → k.chain.kind ≡ Cache → k.chain.updating ≡ false → ((j : ℕ) × IsPinned k.chain.pins j) ⊎ ((j : ℕ) × (at : Option Pos) × Contains m.recency (member id j at))) → AreInUse m
+pub in-use-by : (m : Memory) → ((id : ℕ) (k : KeptChain) → chain_at m id ≡ Some k → k.chain.kind ≡ Cache → k.chain.updating ≡ false → ((j : ℕ) × IsPinned k.chain.pins j) ⊎ ((j : ℕ) × (at : Option Pos) × Contains m.recency (member_at id j at))) → AreInUse m
 in-use-by m h id k there idle = elim (h id k there idle.cached idle.settled) [ inl pin ↦ idle.unpinned pin.0 pin.1 | inr own ↦ idle.unlisted own.0 own.1 own.2 ]

@@ -5,7 +5,7 @@ use Rattle.rc_cell.specs.declared.writes.Tomb.{Tomb}
 use Rattle.rc_memory.specs.Memory.{Memory, with_dropped}
 use Rattle.rc_filler.specs.Snap.{Snap}
 use Rattle.rc_filler.specs.Evictions.{IsRoomMade}
-use Rattle.rc_entries.specs.Filling.{given}
+use Rattle.rc_entries.specs.Filling.{filled_statics}
 use Rattle.rc_stream.specs.Did.{StepsInTurn}
 use Rattle.rc_filler.specs.Fills.{IsFillDone}
 use Rattle.rc_row_cache.specs.Calls.{IsEnterRefused, IsEntered, IsKeptOut}
@@ -20,7 +20,7 @@ module _ (laws : EvictionLaws) (S : ℕ) where
   pub used-entered : (key : List ℕ) (pt : Option Tomb) (statics : Row) (phase : ℕ) (entries : List (List ℕ × ℕ)) (old new : Memory) (s : Snap) → IsEntered S key pt statics phase entries old new s → AreInUse old → AreInUse new
   used-entered key pt statics phase entries old new s e used =
       used-taken s.chain s.pin s.phase e.between new e.taken.taken
-      (used-opened s.chain pt (given statics) phase (with_dropped [] e.made) e.between e.opened (used-same e.made (with_dropped [] e.made) refl refl (used-made old e.made e.room used)))
+      (used-opened s.chain pt (filled_statics statics) phase (with_dropped [] e.made) e.between e.opened (used-same e.made (with_dropped [] e.made) refl refl (used-made old e.made e.room used)))
 
   pub used-kept-out : (old new : Memory) → IsKeptOut S old new → AreInUse old → AreInUse new
   used-kept-out old new (made, room, full, counted) used = used-same made new (ap (λ (m : Memory). m.chains) counted) (ap (λ (m : Memory). m.recency) counted) (used-made old made room used)
@@ -29,7 +29,7 @@ module _ (laws : EvictionLaws) (S : ℕ) where
   used-enter-refused pt statics phase old new (inl same) used = used-same old new (ap (λ (m : Memory). m.chains) same) (ap (λ (m : Memory). m.recency) same) used
   used-enter-refused pt statics phase old new (inr (made, room, inl slots)) used = used-same made new (ap (λ (m : Memory). m.chains) slots.same) (ap (λ (m : Memory). m.recency) slots.same) (used-made old made room used)
   used-enter-refused pt statics phase old new (inr (made, room, inr (id, opened))) used =
-      used-opened id pt (given statics) phase (with_dropped [] made) new opened (used-same made (with_dropped [] made) refl refl (used-made old made room used))
+      used-opened id pt (filled_statics statics) phase (with_dropped [] made) new opened (used-same made (with_dropped [] made) refl refl (used-made old made room used))
 
   module _ (id pin : ℕ) where
     used-fill : (old new : Memory) → IsFillDone S id pin old new → AreInUse old → AreInUse new

@@ -12,7 +12,7 @@ use Rattle.rc_memory.specs.Memory.{HasPin, IsSnapshotTaken, Memory, with_dropped
 use Rattle.rc_chain.specs.declared.chains.Snap.{Snap}
 use Rattle.rc_chain.specs.Lives.{IsSameButSlots}
 use Rattle.rc_filler.specs.Evictions.{IsRoomMade}
-use Rattle.rc_entries.specs.Filling.{IsEntryOpened, given}
+use Rattle.rc_entries.specs.Filling.{IsEntryOpened, filled_statics}
 use Rattle.rc_entries.specs.Found.{entry_number}
 use Rattle.rc_filler.specs.Fills.{IsOutOfRoom, IsSkipCounted}
 use Rattle.rc_filler.specs.Stands.{HasCacheSnapshot}
@@ -30,7 +30,7 @@ pub record IsEntered (S : ℕ) (key : List ℕ) (pt : Option Tomb) (statics : Ro
   pub made : Memory
   pub room : IsRoomMade S old made
   pub between : Memory
-  pub opened : IsEntryOpened s.chain pt (given statics) phase (with_dropped [] made) between
+  pub opened : IsEntryOpened s.chain pt (filled_statics statics) phase (with_dropped [] made) between
   pub taken : IsTakenOf key entries between new s
 
 -- all room was made that could be, which is none, and numbers of chains that are gone were told; one more skipped opening is counted
@@ -39,7 +39,7 @@ IsKeptOut S old new = (made : Memory) × IsRoomMade S old made × IsOutOfRoom S 
 
 -- memory was refused for an entry: none was opened, and the region may have root slots more, at which nothing stands; or one was, and no snapshot of its chain could be taken
 abbrev pub IsOpenRefused : Option Tomb → Row → ℕ → Memory → Memory → Type 0
-IsOpenRefused pt statics phase old new = IsSameButSlots old new ⊎ ((id : ℕ) × IsEntryOpened id pt (given statics) phase old new)
+IsOpenRefused pt statics phase old new = IsSameButSlots old new ⊎ ((id : ℕ) × IsEntryOpened id pt (filled_statics statics) phase old new)
 
 -- memory was refused before anything was done, or for an entry, once room was made and numbers of chains that are gone were told
 abbrev pub IsEnterRefused : ℕ → Option Tomb → Row → ℕ → Memory → Memory → Type 0

@@ -11,7 +11,7 @@ ghost use Rattle.rc_core.specs.declared.entries.ChainKind.TheVariants.{Cache};
 ghost use Rattle.rc_core.specs.Chains.{IsPinned};
 ghost use Rattle.rc_core.specs.Version.{IsVersion};
 ghost use Rattle.rc_registry.specs.Registry.{IsNumberIn};
-ghost use Rattle.rc_memory.specs.Changes.{OfVersion, member};
+ghost use Rattle.rc_memory.specs.Changes.{OfVersion, member_at};
 ghost use Rattle.rc_memory.specs.Kept.{IsLiveInChains, IsSoundChain};
 ghost use Rattle.rc_memory.specs.Memory.{HasPin, IsSnapshotTaken, IsUntouched, KeptChain, Member, Memory, chain_at};
 ghost use Rattle.rc_memory.specs.Recency.{IsRecency};
@@ -139,8 +139,8 @@ pub fn little_is_left_where_nothing_may_be_evicted()
 
 /// That a chain of the row cache is in use is that a snapshot pins it, or something of it stands in the recency list, where no update stands in it.
 pub fn a_chain_in_use_is_pinned_or_listed()
-    ensures is { (m : Memory) (id : ℕ) (k : KeptChain) → AreInUse m → chain_at m id ≡ Some k → k.chain.kind ≡ Cache → k.chain.updating ≡ false → ((j : ℕ) × IsPinned k.chain.pins j) ⊎ ((j : ℕ) × (at : Option Pos) × Contains m.recency (member id j at)) }
-    ensures by { (m : Memory) → ((id : ℕ) (k : KeptChain) → chain_at m id ≡ Some k → k.chain.kind ≡ Cache → k.chain.updating ≡ false → ((j : ℕ) × IsPinned k.chain.pins j) ⊎ ((j : ℕ) × (at : Option Pos) × Contains m.recency (member id j at))) → AreInUse m }
+    ensures is { (m : Memory) (id : ℕ) (k : KeptChain) → AreInUse m → chain_at m id ≡ Some k → k.chain.kind ≡ Cache → k.chain.updating ≡ false → ((j : ℕ) × IsPinned k.chain.pins j) ⊎ ((j : ℕ) × (at : Option Pos) × Contains m.recency (member_at id j at)) }
+    ensures by { (m : Memory) → ((id : ℕ) (k : KeptChain) → chain_at m id ≡ Some k → k.chain.kind ≡ Cache → k.chain.updating ≡ false → ((j : ℕ) × IsPinned k.chain.pins j) ⊎ ((j : ℕ) × (at : Option Pos) × Contains m.recency (member_at id j at))) → AreInUse m }
 {}
 
 /// Each chain of the row cache is in use where none is there; and it is still where objects moved, where objects were evicted, where room was made, where its chains and the recency list are as they were, where a write was put or refused, where a memtable's snapshot was taken back, where the sealed writes were let go, where chains were read, where a snapshot was taken, where a partition entered the cache or was kept out, or memory was refused for it, where fills were done, where partitions in which no update stood were invalidated or detached, and where a chain is gone. A snapshot that is taken back may leave its chain idle: where the chain is swept then, so that it goes if it is, each is in use again.

@@ -16,7 +16,7 @@ ghost use Rattle.rc_memory.specs.Recency.{IsRecency};
 ghost use Rattle.rc_chain.specs.declared.chains.Snap.{Snap as Snapshot};
 ghost use Rattle.rc_chain.specs.Lives.{IsChainDropped};
 ghost use Rattle.rc_filler.specs.Evictions.{AreEvicted, IsRoomMade};
-ghost use Rattle.rc_entries.specs.Filling.{IsEntryOpened, given};
+ghost use Rattle.rc_entries.specs.Filling.{IsEntryOpened, filled_statics};
 ghost use Rattle.rc_cursor.specs.Snapshots.{kind_seen};
 ghost use Rattle.rc_filler.specs.LetGo.{AreLetGo};
 ghost use Rattle.rc_filler.specs.Partitions.{AreAsBefore};
@@ -77,7 +77,7 @@ pub fn the_cache_says_what_lies_below()
     ensures alike { (schema : SchemaValue) (below other : Below) (m : Memory) → ((id : ℕ) (k : KeptChain) → chain_at m id ≡ Some k → k.chain.kind ≡ Cache → (j : ℕ) → j < length k.chain.versions → SameSource (below id (phase_at k.chain.versions j)) (other id (phase_at k.chain.versions j))) →
         CacheSays schema below m → CacheSays schema other m }
     ensures opened { (schema : SchemaValue) (below : Below) (id phase : ℕ) (pt : Option Tomb) (statics : Option Row) (writes : ℕ → List Mutation) (old new : Memory) → IsEntryOpened id pt statics phase old new → All (ChangeFits schema) (writes phase) →
-        pt ≡ source_at_head (writes phase) → statics ≡ given (source_at_static (writes phase)) → CacheSays schema below old → CacheSays schema (with_below id writes below) new }
+        pt ≡ source_at_head (writes phase) → statics ≡ filled_statics (source_at_static (writes phase)) → CacheSays schema below old → CacheSays schema (with_below id writes below) new }
 {
     a_chain_no_longer_found_keeps_what_is_said();
     a_relabelled_chain_keeps_what_is_said();

@@ -12,7 +12,7 @@ ghost use Rattle.rc_writes.specs.Allowed.{ChangeFits};
 ghost use Rattle.rc_version.specs.Versions.{statics_bytes};
 ghost use Rattle.rc_memory.specs.Memory.{KeptChain, Memory, chain_at, raised_by, with_dropped};
 ghost use Rattle.rc_filler.specs.Crowding.{LosesWhereCrowded};
-ghost use Rattle.rc_entries.specs.Filling.{IsEntryOpened, MayFill, given};
+ghost use Rattle.rc_entries.specs.Filling.{IsEntryOpened, MayFill, filled_statics};
 ghost use Rattle.rc_entries.specs.Detached.{IsDetached};
 ghost use Rattle.rc_entries.specs.Found.{IsForgotten, entry_number};
 ghost use Rattle.rc_entries.specs.Entries.{AreEntries, AreSettled, IsCached};
@@ -97,7 +97,7 @@ impl RowCache {
         requires absent { entry_number self.old.entries key.now ≡ None }
         requires roomy { 8952 ≤ 7 * S / 8 }
         requires row { RowFits read.now.statics }
-        requires small { statics_bytes (given read.now.statics) ≤ S / 8 }
+        requires small { statics_bytes (filled_statics read.now.statics) ≤ S / 8 }
         ensures entered { IfOk result (λ o. IfSome o (IsEntered S key.now read.now.pt read.now.statics phase self.new.entries chains.old chains.new)) }
         ensures may { IfOk result (λ o. IfSome o (λ s. MayFill chains.new s.chain s.pin)) }
         ensures kept_out { IfOk result (λ o. IfNone o ((entry_number self.new.entries key.now ≡ None) × IsKeptOut S chains.old chains.new)) }
@@ -130,7 +130,7 @@ impl RowCache {
         requires absent { entry_number self.old.entries key.now ≡ None }
         requires roomy { 8952 ≤ 7 * S / 8 }
         requires row { RowFits head.now.statics }
-        requires small { statics_bytes (given head.now.statics) ≤ S / 8 }
+        requires small { statics_bytes (filled_statics head.now.statics) ≤ S / 8 }
         ensures entered { IfOk result (λ o. IfSome o (IsEntered S key.now head.now.pt head.now.statics phase self.new.entries chains.old chains.new)) }
         ensures may { IfOk result (λ o. IfSome o (λ s. MayFill chains.new s.chain s.pin)) }
         ensures kept_out { IfOk result (λ o. IfNone o ((entry_number self.new.entries key.now ≡ None) × IsKeptOut S chains.old chains.new)) }
@@ -178,10 +178,10 @@ impl RowCache {
         requires absent { entry_number self.old.entries key.now ≡ None }
         requires fits { 88 ≤ S / 8 }
         requires row { RowFits head.now.statics }
-        requires small { statics_bytes (given head.now.statics) ≤ S / 8 }
-        requires spare { 152 + statics_bytes (given head.now.statics) ≤ spare_of S chains.old.region.usages }
+        requires small { statics_bytes (filled_statics head.now.statics) ≤ S / 8 }
+        requires spare { 152 + statics_bytes (filled_statics head.now.statics) ≤ spare_of S chains.old.region.usages }
         ensures some { IfOk result IsSome }
-        ensures entered { IfOk result (λ o. IfSome o (λ s. (mid : Memory) × IsEntryOpened s.chain head.now.pt (given head.now.statics) phase chains.old mid × IsTakenOf key.now self.new.entries mid chains.new s)) }
+        ensures entered { IfOk result (λ o. IfSome o (λ s. (mid : Memory) × IsEntryOpened s.chain head.now.pt (filled_statics head.now.statics) phase chains.old mid × IsTakenOf key.now self.new.entries mid chains.new s)) }
         ensures refused { OnErr result (IsOpenRefused head.now.pt head.now.statics phase chains.old chains.new) }
         ensures may { IfOk result (λ o. IfSome o (λ s. MayFill chains.new s.chain s.pin)) }
         ensures others { (q : Sequence ℕ) (id : ℕ) → entry_number self.new.entries q ≡ Some id → (q ≡ key.now → ⊥) → entry_number self.old.entries q ≡ Some id }

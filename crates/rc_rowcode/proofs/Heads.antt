@@ -8,11 +8,11 @@ use Rattle.rc_cell.specs.declared.rows.Row.{Row}
 use Rattle.rc_cell.specs.laws.{same_row}
 use Rattle.rc_rowcode.specs.Spelling.{optional_code, tomb_code, entry_code, cells_code, row_code, IsEntry, IsCodedRow}
 use Rattle.rc_rowcode.specs.calls.Reading.{parse_stamp, parse_optional, parse_tomb}
-use Rattle.rc_rowcode.specs.calls.Joining.{listed}
+use Rattle.rc_rowcode.specs.calls.Joining.{listed_cells}
 use Rattle.rc_rowcode.specs.laws.RowCodec.{marker_again, row_tomb_again, first_again}
 
-listed_coded : (es : List (ℕ × Cell)) → AllByRecursion IsEntry es → listed (length es) (flat_map entry_code es) ≡ es
-unfolding listed
+listed_coded : (es : List (ℕ × Cell)) → AllByRecursion IsEntry es → listed_cells (length es) (flat_map entry_code es) ≡ es
+unfolding listed_cells
 listed_coded [] fits = refl
 listed_coded (e ∷ es) fits = rw (first_again e (flat_map entry_code es) fits.0, listed_coded es fits.1) refl
 
@@ -42,9 +42,9 @@ rest_same : (n k : ℕ) (l s : List ℕ) → n ∷ l ≡ k ∷ s → l ≡ s
 rest_same n k l s e = cc
 
 pub whole_head : (bytes : List ℕ) (r : Row) (m : Option ℤ) (rest : List ℕ) (t : Option Tomb) (behind : List ℕ) (n : ℕ) (cells : List ℕ) → IsCodedRow r → bytes ≡ row_code r → Some (m, rest) ≡ parse_optional parse_stamp bytes → Some (t, behind) ≡ parse_optional parse_tomb rest
-    → behind ≡ n ∷ cells → ◌≡◌ {A = Row} (record { marker = m; tomb = t; cells = listed n cells }) r
+    → behind ≡ n ∷ cells → ◌≡◌ {A = Row} (record { marker = m; tomb = t; cells = listed_cells n cells }) r
 whole_head bytes r m rest t behind n cells fits e h g b =
     let read = tomb_read bytes r m rest t behind fits e h g in
     let same : n ∷ cells ≡ length r.cells ∷ flat_map entry_code r.cells = sym b ∙ read.1 in
     same_row (marker_read bytes r m rest fits e h).0 read.0
-    ((λ i. listed (first_same n (length r.cells) cells (flat_map entry_code r.cells) same i) (rest_same n (length r.cells) cells (flat_map entry_code r.cells) same i)) ∙ listed_coded r.cells fits.cells)
+    ((λ i. listed_cells (first_same n (length r.cells) cells (flat_map entry_code r.cells) same i) (rest_same n (length r.cells) cells (flat_map entry_code r.cells) same i)) ∙ listed_coded r.cells fits.cells)

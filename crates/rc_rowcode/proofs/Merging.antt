@@ -13,7 +13,7 @@ use Rattle.rc_cell.specs.laws.ByColumn.{holds, test_of, second, winners-ascendin
 use Rattle.rc_cell.specs.laws.Merge.{pick, merge, merge-winners, picked, winner-pair}
 use Rattle.rc_cell.specs.Orders.{cell_cmp}
 use Rattle.rc_rowcode.specs.calls.Reading.{parse_entry}
-use Rattle.rc_rowcode.specs.calls.Joining.{listed}
+use Rattle.rc_rowcode.specs.calls.Joining.{listed_cells}
 
 abbrev Cells : Type 0
 Cells = List (ℕ × Cell)
@@ -23,17 +23,17 @@ Ascends l = IsTrue (ascending l)
 
 -- ---- reading one by one
 
-pub listed_end : (n : ℕ) (bytes : List ℕ) → n ≡ 0 → listed n bytes ≡ []
-unfolding listed
-listed_end n bytes e = ap (λ k. listed k bytes) e
+pub listed_end : (n : ℕ) (bytes : List ℕ) → n ≡ 0 → listed_cells n bytes ≡ []
+unfolding listed_cells
+listed_end n bytes e = ap (λ k. listed_cells k bytes) e
 
-pub listed_stuck : (n : ℕ) (bytes : List ℕ) → parse_entry 0 bytes ≡ None → listed n bytes ≡ []
-unfolding listed
+pub listed_stuck : (n : ℕ) (bytes : List ℕ) → parse_entry 0 bytes ≡ None → listed_cells n bytes ≡ []
+unfolding listed_cells
 listed_stuck zero bytes e = refl
 listed_stuck (suc n) bytes e = rw e refl
 
-pub listed_step : (n : ℕ) (bytes : List ℕ) (x : ℕ × Cell) (rest : List ℕ) → 0 < n → parse_entry 0 bytes ≡ Some (x, rest) → listed n bytes ≡ x ∷ listed (n - 1) rest
-unfolding listed
+pub listed_step : (n : ℕ) (bytes : List ℕ) (x : ℕ × Cell) (rest : List ℕ) → 0 < n → parse_entry 0 bytes ≡ Some (x, rest) → listed_cells n bytes ≡ x ∷ listed_cells (n - 1) rest
+unfolding listed_cells
 listed_step zero bytes x rest lt e = absurd (omega arith)
 listed_step (suc n) bytes x rest lt e =
     let k : suc n - 1 ≡ n = omega arith in

@@ -6,10 +6,9 @@ ghost use Rattle.std.specs.Vec.{vec_capacity};
 ghost use Rattle.rc_cell.specs.declared.rows.Row.{Row};
 ghost use Rattle.rc_cell.specs.Orders.{cell_cmp};
 ghost use Rattle.rc_cell.specs.Winner.{winner, joined_row};
-ghost use Rattle.rc_cell.specs.Greatest.{greater};
 ghost use Rattle.rc_rowcode.specs.Spelling.{entry_code, row_code, CellFits, IsCodedRow, IsCode};
 ghost use Rattle.rc_rowcode.specs.calls.Views.{seen_cell};
-ghost use Rattle.rc_rowcode.specs.calls.Joining.{listed, seen_entries, seen_row, merged_cells, AreSorted};
+ghost use Rattle.rc_rowcode.specs.calls.Joining.{listed_cells, seen_entries, seen_row, merged_cells, AreSorted};
 ghost use Rattle.rc_rowcode.specs.Space.{Space, HasRoom};
 
 use crate::cells::{CellView, append_entry, entry_at};
@@ -18,7 +17,7 @@ use crate::rows::{
     append_marker, append_row_tomb, marker_at, marker_size, row_tomb_at, row_tomb_size,
 };
 use crate::scratch::Scratch;
-use rc_cell::Tomb;
+use rc_cell::{Tomb, greater_of};
 use std::cmp::Ordering;
 
 /// Cells in a row's code that are still to be read: how many, and the bytes from the first on.
@@ -189,17 +188,6 @@ fn head_of(bytes: &[u8]) -> Head<'_>
         marker,
         tomb,
         cells: Entries { count, bytes: rest },
-    }
-}
-
-// The greater of two values, where there are any.
-fn greater_of<T: Ord + Copy>(ours: Option<T>, theirs: Option<T>) -> Option<T>
-    ensures { result ≡ greater T.cmp ours theirs }
-{
-    match (ours, theirs) {
-        (Some(ours), Some(theirs)) => Some(theirs.max(ours)),
-        (Some(ours), None) => Some(ours),
-        (None, theirs) => theirs,
     }
 }
 

@@ -16,4 +16,5 @@ pub use laws::{
     what_fits_is_no_larger_than_the_largest, what_fits_is_within_the_limits,
     what_fits_joins_to_what_fits,
 };
+pub use names::is_name;
 pub use schemas::{Schema, SchemaTextErr};

@@ -28,8 +28,8 @@ fn are_name_bytes(bytes: &[u8]) -> bool
     bytes.iter().all(|byte| is_name_byte(*byte))
 }
 
-/// Whether a text is the name of a column.
-fn is_name(text: &[u8]) -> bool
+/// Whether a text has the form of a column's name.
+pub fn is_name(text: &[u8]) -> bool
     ensures { result ≡ is_name text.now }
 {
     match text {

@@ -3,7 +3,7 @@
 ghost use Rattle.std.specs.Prelude.{◌≡◌, ◌↔◌, ◌++◌, ◌&&◌, IfOk, IsTrue, OnOk, Some, None, map, nat_le, length, ◌≤◌, ◌<◌, IfSome};
 ghost use Rattle.std.specs.List.{list_all, join_with_byte};
 ghost use Rattle.rc_schema.specs.SchemaValue.{SchemaValue, is_schema, are_few};
-ghost use Rattle.rc_schema.specs.calls.Tests.{lists_named, are_listed, marked};
+ghost use Rattle.rc_schema.specs.calls.Tests.{lists_named, are_listed, schema_of_marked_words};
 ghost use Rattle.rc_schema.specs.SchemaText.{schema_text, kind_text, names_text, schema_listed, schema_of_words, schema_of, ReadsSchema};
 ghost use Rattle.rc_rowcode.specs.Spelling.{KeyFits, RowFits};
 ghost use Rattle.rc_schema.specs.Checks.{column_of, checked_prefix, checked_cells, column_count};
@@ -145,7 +145,7 @@ fn marked(
     statics: &[u8],
     cols: &[u8],
 ) -> Result<Option<Schema>, AllocError>
-    ensures { IfOk result (λ found. found ≡ marked ck.now statics.now cols.now) }
+    ensures { IfOk result (λ found. found ≡ schema_of_marked_words ck.now statics.now cols.now) }
 {
     if !ck.starts_with(b"ck=") {
         return Ok(None);

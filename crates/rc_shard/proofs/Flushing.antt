@@ -20,7 +20,7 @@ use Rattle.rc_lookup.specs.Unstored.{Unstored}
 use Rattle.rc_lookup.specs.Memtables.{HaveWrites}
 use Rattle.rc_opened.specs.declared.opened.Opened.{Opened}
 use Rattle.rc_opened.specs.Opened.{snaps_of}
-use Rattle.rc_machine.specs.State.{State, numbers, unstored}
+use Rattle.rc_machine.specs.State.{State, numbers, unstored_writes}
 use Rattle.rc_machine.specs.Steps.{IsFlushed, last_number, next_number, sealing, with_table, without_sealed}
 use Rattle.rc_machine.specs.Serving.{Stops, Takes}
 use Rattle.rc_folder.specs.Tabled.{IsTableAdded, IsNextNumber, Tabled}
@@ -30,7 +30,7 @@ use Rattle.rc_folder.specs.laws.Over.{fresh, over_added, over_let_go, over_seale
 use Rattle.rc_folder.specs.laws.Sealing.{not_none, sealing_is}
 use Rattle.rc_shard.specs.declared.shard.Shard.{Shard}
 use Rattle.rc_shard.specs.Stands.{AreFor, AreSound, HaveUnstored, IsServed, Stands}
-use Rattle.rc_shard.specs.calls.Storing.{IsFlushAnswered, IsKept, IsTableStored}
+use Rattle.rc_shard.specs.calls.Storing.{IsFlushAnswered, IsTableStored, KeepsUnstored}
 use Rattle.rc_shard.proofs.Served.{all-served}
 use Rattle.rc_lookup.specs.RowCache.{RowCache}
 use Rattle.rc_shard.specs.Cached.{HaveCached}
@@ -41,10 +41,10 @@ use Rattle.rc_shard.proofs.Standing.{cached-still, joined-still, kept-for, sound
 use Rattle.rc_shard.proofs.Taking.{moved}
 
 -- whether something is to be flushed
-left-of : (m : State) → length (unstored m) ≡ length m.log - m.stored
+left-of : (m : State) → length (unstored_writes m) ≡ length m.log - m.stored
 left-of m = length-drop m.stored m.log
 
-all-stored : (m : State) → m.stored ≤ length m.log → unstored m ≡ [] → (m.stored == length m.log) ≡ true
+all-stored : (m : State) → m.stored ≤ length m.log → unstored_writes m ≡ [] → (m.stored == length m.log) ≡ true
 all-stored m h none = let count = left-of m in let e = ap (λ (ws : List Write). length ws) none in grind (arith, nat_tests, count, e, h)
 
 nothing-in : (ws : List Write) → length ws ≡ 0 → ws ≡ []
@@ -61,11 +61,11 @@ test-of : (b : Bool) → (b ≡ true → ⊥) → b ≡ false
 test-of true h = absurd (h refl)
 test-of false h = refl
 
-some-left : (m : State) → m.stored ≤ length m.log → (unstored m ≡ [] → ⊥) → (m.stored == length m.log) ≡ false
-some-left m h some = test-of (m.stored == length m.log) (λ e. some (nothing-in (unstored m) (let count = left-of m in let same = equal-is m.stored (length m.log) e in omega (arith, count, same))))
+some-left : (m : State) → m.stored ≤ length m.log → (unstored_writes m ≡ [] → ⊥) → (m.stored == length m.log) ≡ false
+some-left m h some = test-of (m.stored == length m.log) (λ e. some (nothing-in (unstored_writes m) (let count = left-of m in let same = equal-is m.stored (length m.log) e in omega (arith, count, same))))
 
 -- the writes are sealed, unless some are
-have-sealed : (schema : SchemaValue) (u v : Unstored 131072) (m : State) (sealed later : List Write) → HaveWrites schema u sealed later → sealed ++ later ≡ unstored m → m.sealed ≡ m.stored + length sealed → m.stored ≤ length m.log →
+have-sealed : (schema : SchemaValue) (u v : Unstored 131072) (m : State) (sealed later : List Write) → HaveWrites schema u sealed later → sealed ++ later ≡ unstored_writes m → m.sealed ≡ m.stored + length sealed → m.stored ≤ length m.log →
     ((others : List Write) → HaveWrites schema u [] others → HaveWrites schema v others []) → ((w : Write) (writes others : List Write) → HaveWrites schema u (w ∷ writes) others → v ≡ u) → HaveUnstored schema v (record m { sealed = sealing m })
 have-sealed schema u v m [] later h are count in_log seals keeps = record { sealed = later; later = []; have = seals later h; are = append-nil later ∙ are; count = sealing_is m [] later in_log are count }
 have-sealed schema u v m (w ∷ ws) later h are count in_log seals keeps = record {
@@ -127,7 +127,7 @@ module _ (lines : Opened → Memory → List OutLine → Type 0) where
 
   module _ (stays : (o : Opened) (m n : Memory) (ls : List OutLine) → StillSeeBoth (snaps_of o) m n → lines o m ls → lines o n ls) where
     -- want of memory: the writes stay sealed
-    pub stops-sealed : (files files' : Option Files) (k l k' : Shard) → ((m : State) → Stands lines files k m → Stands lines files l (record m { sealed = sealing m })) → k'.folder ≡ l.folder → k'.cache.entries ≡ l.cache.entries → k'.segments ≡ l.segments → k'.readers.items ≡ l.readers.items → IsKept l.folder.schema l.unstored k'.unstored → files' ≡ files →
+    pub stops-sealed : (files files' : Option Files) (k l k' : Shard) → ((m : State) → Stands lines files k m → Stands lines files l (record m { sealed = sealing m })) → k'.folder ≡ l.folder → k'.cache.entries ≡ l.cache.entries → k'.segments ≡ l.segments → k'.readers.items ≡ l.readers.items → KeepsUnstored l.folder.schema l.unstored k'.unstored → files' ≡ files →
         Stops (Stands lines) files k Flush files' k'
     stops-sealed files files' k l k' seals folder cache segs items kept still = λ m s.
         let sealed : State = record m { sealed = sealing m } in
@@ -135,7 +135,7 @@ module _ (lines : Opened → Memory → List OutLine → Type 0) where
 
     module _ (files files' : Option Files) (k l k' : Shard) (n : ℕ) (some : (schema : SchemaValue) (writes later : List Write) → HaveWrites schema k.unstored writes later → writes ++ later ≡ [] → ⊥) (is : IsNextNumber k.folder.infos (Some n))
         (seals : (m : State) → Stands lines files k m → Stands lines files l (record m { sealed = sealing m })) (segs : k'.segments ≡ l.segments) (items : k'.readers.items ≡ l.readers.items) where
-      takes-write-fault : k'.folder ≡ l.folder → k'.cache ≡ l.cache → IsKept l.folder.schema l.unstored k'.unstored → files' ≡ files → Takes (Stands lines) files k Flush (replies.Refused WriteFault) files' k'
+      takes-write-fault : k'.folder ≡ l.folder → k'.cache ≡ l.cache → KeepsUnstored l.folder.schema l.unstored k'.unstored → files' ≡ files → Takes (Stands lines) files k Flush (replies.Refused WriteFault) files' k'
       takes-write-fault folder cache kept still = λ m s.
           let sealed : State = record m { sealed = sealing m } in (
             sealed,

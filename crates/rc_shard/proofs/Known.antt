@@ -12,7 +12,7 @@ use Rattle.rc_mutation.specs.declared.mutations.Partition.{Partition}
 use Rattle.rc_mutation.specs.declared.mutations.Write.{Write}
 use Rattle.rc_mutation.specs.Fragments.{IsParts}
 use Rattle.rc_outside.specs.Files.{Files}
-use Rattle.rc_core.specs.Chain.{flagged}
+use Rattle.rc_core.specs.Chain.{has_flag}
 use Rattle.rc_registry.specs.ChainKind.{ChainKind}
 use Rattle.rc_registry.specs.Continuity.{static_states}
 use Rattle.rc_registry.specs.Registry.{IsNumberIn}
@@ -80,7 +80,7 @@ where-still P k k' key are gone still known =
 pub known-where : (k k' : Shard) (key : List ℕ) → ((P : ChainKind → List Version → Type 0) → IsCachedWhere P k key → IsCachedWhere P k' key) → IsKnownStill key k k'
 known-where k k' key still = record {
   each = λ x from to. still (λ kind versions. IsKnownFrom (IsKnownAs kind versions) first_position x);
-  static_row = still (λ kind versions. IsTrue (flagged kind (static_states versions)));
+  static_row = still (λ kind versions. IsTrue (has_flag kind (static_states versions)));
   whole = still IsPartitionKnown;
 }
 
@@ -109,7 +109,7 @@ where-weaker P Q f k key h = some-known (entry_number k.cache.entries key) (IsCh
 pub known-whole : (k k' : Shard) (key : List ℕ) → IsCachedWhole k' key → IsKnownStill key k k'
 known-whole k k' key whole = record {
   each = λ x from to h. where-weaker IsPartitionKnown (λ kind versions. IsKnownFrom (IsKnownAs kind versions) first_position x) (λ kind versions p. p.each x from to) k' key whole;
-  static_row = λ h. where-weaker IsPartitionKnown (λ kind versions. IsTrue (flagged kind (static_states versions))) (λ kind versions p. p.static_row) k' key whole;
+  static_row = λ h. where-weaker IsPartitionKnown (λ kind versions. IsTrue (has_flag kind (static_states versions))) (λ kind versions p. p.static_row) k' key whole;
   whole = λ h. whole;
 }
 

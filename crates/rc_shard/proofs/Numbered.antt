@@ -3,7 +3,7 @@ use Rattle.std.proofs.Common.{inl, inr, ◌≡◌, ◌≢◌, ℕ, Bool, true, f
 use Rattle.std.specs.Prelude.{IsSomeAnd}
 use Rattle.std.specs.Option.{option_map}
 use Rattle.lsa_pool.specs.laws.Usages.{decided}
-use Rattle.rc_registry.specs.Registry.{put}
+use Rattle.rc_registry.specs.Registry.{put_at_number}
 use Rattle.rc_memory.specs.Memory.{KeptChain, Memory, chain_at}
 use Rattle.rc_memory.specs.laws.Places.{no_some}
 use Rattle.rc_memory.specs.laws.Put.{put-at, put-beside}
@@ -29,7 +29,7 @@ pub some-chain : (P : KeptChain → Type 0) (o : Option KeptChain) → IsSomeAnd
 some-chain P None h = absurd h
 some-chain P (Some k) h = (k, refl, h)
 
-module _ (old new : Memory) (id : ℕ) (c : Option KeptChain) (is : new.chains ≡ put id c old.chains) where
+module _ (old new : Memory) (id : ℕ) (c : Option KeptChain) (is : new.chains ≡ put_at_number id c old.chains) where
   pub chain-here : chain_at new id ≡ c
   chain-here = ap (λ cs. slice_index_or cs id None) is ∙ put-at old.chains id c
 

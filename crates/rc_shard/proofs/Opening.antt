@@ -23,11 +23,11 @@ use Rattle.rc_lookup.specs.Memtables.{HaveWrites}
 use Rattle.rc_lookup.specs.Readers.{IsNoneOf}
 use Rattle.rc_opened.specs.declared.opened.Opened.{Opened}
 use Rattle.rc_opened.specs.Opened.{AreChangesOf, snaps_of}
-use Rattle.rc_machine.specs.State.{Reader, State, rest_of, unstored}
+use Rattle.rc_machine.specs.State.{Reader, State, rest_of, unstored_writes}
 use Rattle.rc_machine.specs.Steps.{reader_with}
 use Rattle.rc_shard.specs.declared.shard.Shard.{Shard}
 use Rattle.rc_shard.specs.Stands.{AreOfTwo, IsServed, Stands}
-use Rattle.rc_shard.specs.calls.Storing.{IsKept}
+use Rattle.rc_shard.specs.calls.Storing.{KeepsUnstored}
 use Rattle.rc_shard.proofs.Places.{nowhere-of}
 use Rattle.rc_shard.proofs.Served.{all-served, more-served, more-two}
 use Rattle.rc_shard.proofs.Standing.{reading-for}
@@ -66,12 +66,12 @@ changes-good schema key (w ∷ ws) h =
     ]
 
 -- the writes that stand in no table
-unstored-goods : (schema : SchemaValue) (m : State) (sealed later : List Write) → All (λ w. IsMutation w.change) m.log → All (λ w. CommandFits schema (Put w)) m.log → sealed ++ later ≡ unstored m → Goods schema sealed × Goods schema later
+unstored-goods : (schema : SchemaValue) (m : State) (sealed later : List Write) → All (λ w. IsMutation w.change) m.log → All (λ w. CommandFits schema (Put w)) m.log → sealed ++ later ≡ unstored_writes m → Goods schema sealed × Goods schema later
 unstored-goods schema m sealed later is fit are = goods-split schema sealed later (subst (Goods schema) (sym are) (goods-behind schema m.stored m.log (goods-of schema m.log is fit)))
 
 module _ (lines : Opened → Memory → List OutLine → Type 0) (stays : (o : Opened) (m n : Memory) (ls : List OutLine) → StillSeeBoth (snaps_of o) m n → lines o m ls → lines o n ls) where
   pub opens-reader : (files : Option Files) (k k' : Shard) (id : ℕ) (key : List ℕ) (slice : Slice) (x : Opened) → ((writes later : List Write) → changes_to key (writes ++ later) ≡ changes_to key writes ++ changes_to key later) →
-      position (λ reader. reader.0 == id) k.readers.items ≡ None → k'.folder ≡ k.folder → k'.cache.entries ≡ k.cache.entries → k'.segments ≡ k.segments → k'.readers.items ≡ k.readers.items ++ (id, x) ∷ [] → ((schema : SchemaValue) → IsKept schema k.unstored k'.unstored) → (said : List Mutation) →
+      position (λ reader. reader.0 == id) k.readers.items ≡ None → k'.folder ≡ k.folder → k'.cache.entries ≡ k.cache.entries → k'.segments ≡ k.segments → k'.readers.items ≡ k.readers.items ++ (id, x) ∷ [] → ((schema : SchemaValue) → KeepsUnstored schema k.unstored k'.unstored) → (said : List Mutation) →
       ((schema : SchemaValue) (writes later : List Write) → HaveWrites schema k.unstored writes later → AreChangesOf schema (changes_to key writes) → AreChangesOf schema (changes_to key later) →
       lines x k'.unstored.chains (answer (said ++ (changes_to key writes ++ changes_to key later)) slice)) →
       AreThere k'.unstored.chains (snaps_of x) → AreOfTwo (snaps_of x) → x.key ≡ key → ((s : Snap) → HasPin k.unstored.chains s.chain s.pin → IsNoneOf (snaps_of x) s) →
@@ -82,7 +82,7 @@ module _ (lines : Opened → Memory → List OutLine → Type 0) (stays : (o : O
       let h = s.have in
       let fit : All (λ w. CommandFits schema (Put w)) m.log = subst (λ (t : SchemaValue). All (λ w. CommandFits t (Put w)) m.log) s.over.schema s.over.fit in
       let goods = unstored-goods schema m h.sealed h.later s.sound.mutations fit h.are in
-      let split : changes_to key h.sealed ++ changes_to key h.later ≡ changes_to key (unstored m) = sym (both h.sealed h.later) ∙ ap (changes_to key) h.are in
+      let split : changes_to key h.sealed ++ changes_to key h.later ≡ changes_to key (unstored_writes m) = sym (both h.sealed h.later) ∙ ap (changes_to key) h.are in
       let r : Reader = reader_with m key slice said in
       let given : List (ℕ × Reader) = m.readers ++ (id, r) ∷ [] in
       let left : lines x k'.unstored.chains (rest_of r) = subst (λ (cs : List Mutation). lines x k'.unstored.chains (answer (said ++ cs) slice)) split (gives schema h.sealed h.later h.have (changes-good schema key h.sealed goods.0) (changes-good schema key h.later goods.1)) in

@@ -42,7 +42,7 @@ use Rattle.rc_memory.specs.Room.{chain_bytes}
 use Rattle.rc_lookup.specs.Footprint.{is_chain_of, memtable_bytes}
 use Rattle.rc_shard.specs.Cached.{HaveCached, IsJoinSaid}
 use Rattle.rc_shard.specs.calls.Caching.{KeepsCache, LeavesCache}
-use Rattle.rc_shard.specs.calls.Storing.{IsKept, IsPutIn}
+use Rattle.rc_shard.specs.calls.Storing.{KeepsUnstored, TakesWrite}
 use Rattle.rc_shard.proofs.Caching.{keeps-itself, keeps-then}
 use Rattle.rc_shard.proofs.Served.{all-served}
 
@@ -118,10 +118,10 @@ if-ok-weaker (Err e) P Q f h = tt
 
 -- ---- what is kept
 
-pub kept-itself : (schema : SchemaValue) (u : Unstored 131072) → IsKept schema u u
+pub kept-itself : (schema : SchemaValue) (u : Unstored 131072) → KeepsUnstored schema u u
 kept-itself schema u = record { stands = λ writes later h. h; seen = all-see u.chains u.chains (λ s on. record { pin = on; versions = refl; kind = refl }); room = no-more-itself u.chains; cache = keeps-itself u.chains }
 
-pub kept-then : (schema : SchemaValue) (u v w : Unstored 131072) → IsKept schema u v → IsKept schema v w → IsKept schema u w
+pub kept-then : (schema : SchemaValue) (u v w : Unstored 131072) → KeepsUnstored schema u v → KeepsUnstored schema v w → KeepsUnstored schema u w
 kept-then schema u v w a b = record {
   stands = λ writes later h. b.stands writes later (a.stands writes later h);
   seen = seen-then u.chains v.chains w.chains a.seen b.seen;
@@ -130,16 +130,16 @@ kept-then schema u v w a b = record {
 }
 
 -- where objects moved
-pub room-kept : (schema : SchemaValue) (u v : Unstored 131072) → ((writes later : List Write) → HaveWrites schema u writes later → HaveWrites schema v writes later) → AreSameSnapshots u.chains v.chains → TakesNoMore u.chains v.chains → KeepsCache u.chains v.chains → IsKept schema u v
+pub room-kept : (schema : SchemaValue) (u v : Unstored 131072) → ((writes later : List Write) → HaveWrites schema u writes later → HaveWrites schema v writes later) → AreSameSnapshots u.chains v.chains → TakesNoMore u.chains v.chains → KeepsCache u.chains v.chains → KeepsUnstored schema u v
 room-kept schema u v stands same room cache = record { stands = stands; seen = all-see u.chains v.chains same.alike; room = room; cache = cache }
 
 -- in chains that are the same
-pub kept-in : (schema : SchemaValue) (u v : Unstored 131072) (m : Memory) → m ≡ v.chains → IsKept schema u v → IsKept schema u (in_chains m v)
-kept-in schema u v m e k = subst (λ (x : Memory). IsKept schema u (in_chains x v)) (sym e) k
+pub kept-in : (schema : SchemaValue) (u v : Unstored 131072) (m : Memory) → m ≡ v.chains → KeepsUnstored schema u v → KeepsUnstored schema u (in_chains m v)
+kept-in schema u v m e k = subst (λ (x : Memory). KeepsUnstored schema u (in_chains x v)) (sym e) k
 
 -- once snapshots are given back that were not there before
-pub kept-back : (schema : SchemaValue) (u v w : Unstored 131072) (snaps : Snaps) → IsKept schema u v → ((s : Snap) → HasPin u.chains s.chain s.pin → IsNoneOf snaps s) → ((writes later : List Write) → HaveWrites schema v writes later → HaveWrites schema w writes later) →
-    ((s : Snap) → IsNoneOf snaps s → HasPin v.chains s.chain s.pin → StillSees s v.chains w.chains) → TakesNoMore v.chains w.chains → KeepsCache v.chains w.chains → IsKept schema u w
+pub kept-back : (schema : SchemaValue) (u v w : Unstored 131072) (snaps : Snaps) → KeepsUnstored schema u v → ((s : Snap) → HasPin u.chains s.chain s.pin → IsNoneOf snaps s) → ((writes later : List Write) → HaveWrites schema v writes later → HaveWrites schema w writes later) →
+    ((s : Snap) → IsNoneOf snaps s → HasPin v.chains s.chain s.pin → StillSees s v.chains w.chains) → TakesNoMore v.chains w.chains → KeepsCache v.chains w.chains → KeepsUnstored schema u w
 kept-back schema u v w snaps k fresh stands others room cache = record {
   stands = λ writes later h. stands writes later (k.stands writes later h);
   seen = record {
@@ -170,7 +170,7 @@ none-of-new key writes later m n l snaps a b s on = (none-new key writes m n sna
 module _ (lines : Opened → Memory → List OutLine → Type 0) where
   module _ (stays : (o : Opened) (m n : Memory) (ls : List OutLine) → StillSeeBoth (snaps_of o) m n → lines o m ls → lines o n ls) where
     -- what was written stays, and so does what snapshots see
-    pub kept-for : (told : Option Files) (f : Tabled) (u v : Unstored 131072) (entries : List (List ℕ × ℕ)) (readers : List (ℕ × Opened)) (segments : ℕ) (m : State) → IsKept f.schema u v → AreFor lines told f u entries readers segments m → AreFor lines told f v entries readers segments m
+    pub kept-for : (told : Option Files) (f : Tabled) (u v : Unstored 131072) (entries : List (List ℕ × ℕ)) (readers : List (ℕ × Opened)) (segments : ℕ) (m : State) → KeepsUnstored f.schema u v → AreFor lines told f u entries readers segments m → AreFor lines told f v entries readers segments m
     kept-for told f u v entries readers segments m k s = record {
       over = s.over;
       have = record { sealed = s.have.sealed; later = s.have.later; have = k.stands s.have.sealed s.have.later s.have.have; are = s.have.are; count = s.have.count };
@@ -184,7 +184,7 @@ module _ (lines : Opened → Memory → List OutLine → Type 0) where
     }
 
     -- one write more
-    pub written-for : (told : Option Files) (f : Tabled) (u v : Unstored 131072) (entries : List (List ℕ × ℕ)) (readers : List (ℕ × Opened)) (segments : ℕ) (m : State) (w : Write) → CommandFits f.schema (Put w) → IsMutation w.change → IsPutIn f.schema w u v →
+    pub written-for : (told : Option Files) (f : Tabled) (u v : Unstored 131072) (entries : List (List ℕ × ℕ)) (readers : List (ℕ × Opened)) (segments : ℕ) (m : State) (w : Write) → CommandFits f.schema (Put w) → IsMutation w.change → TakesWrite f.schema w u v →
         AreFor lines told f u entries readers segments m → AreFor lines told f v entries readers segments (record m { log = m.log ++ w ∷ [] })
     written-for told f u v entries readers segments m w fits is put s = record {
       over = over_written told f.schema f.infos m w fits s.over;

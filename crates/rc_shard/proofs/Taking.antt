@@ -40,10 +40,10 @@ use Rattle.rc_shard.specs.declared.shard.Shard.{Shard}
 use Rattle.rc_shard.specs.Stands.{AreFor, AreOfTwo, Stands}
 use Rattle.rc_lookup.specs.LetGo.{TakesNoMore}
 use Rattle.rc_lookup.specs.NoMore.{no-more-itself}
-use Rattle.rc_shard.specs.calls.Keeping.{Keeps, TellsOf}
+use Rattle.rc_shard.specs.calls.Keeping.{StandsForTheSame, TellsOf}
 use Rattle.rc_shard.specs.calls.Caching.{IsFull, KeepsCache}
 use Rattle.rc_shard.specs.calls.Looking.{KeepsOver}
-use Rattle.rc_shard.specs.calls.Storing.{IsKept, IsPutIn}
+use Rattle.rc_shard.specs.calls.Storing.{KeepsUnstored, TakesWrite}
 use Rattle.rc_shard.proofs.Caching.{keeps-itself}
 use Rattle.rc_shard.proofs.Places.{IsNowhere, IsPlace, one-of}
 use Rattle.rc_shard.proofs.Served.{IsFound, fewer-two, look-none, look-some, removed-served, same-two, served-count, set-kept, set-served}
@@ -178,7 +178,7 @@ module _ (lines : Opened → Memory → List OutLine → Type 0) where
 
   -- a reader gave none, for want of memory
   pub keeps-read : (k k' : Shard) (id at : ℕ) (d x : ℕ × Opened) → IsPlace id k.readers.items at → get_or k.readers.items at d ≡ d → ((ls : List OutLine) → lines d.1 k.unstored.chains ls → lines x.1 k'.unstored.chains ls) → x.0 ≡ d.0 → x.1.key ≡ d.1.key → snaps_of x.1 ≡ snaps_of d.1 →
-      k'.folder ≡ k.folder → k'.cache.entries ≡ k.cache.entries → k'.unstored ≡ k.unstored → k'.segments ≡ k.segments → k'.readers.items ≡ set k.readers.items at x → Keeps (Stands lines) k k'
+      k'.folder ≡ k.folder → k'.cache.entries ≡ k.cache.entries → k'.unstored ≡ k.unstored → k'.segments ≡ k.segments → k'.readers.items ≡ set k.readers.items at x → StandsForTheSame (Stands lines) k k'
   keeps-read k k' id at d x p here rest same own snaps folder cache unst segs items = λ files m s.
       let chains : k'.unstored.chains ≡ k.unstored.chains = ap (λ u. u.chains) unst in
       let left : (ls : List OutLine) → lines (get_or k.readers.items at d).1 k.unstored.chains ls → lines x.1 k.unstored.chains ls =
@@ -206,14 +206,14 @@ module _ (lines : Opened → Memory → List OutLine → Type 0) where
 
     -- ---- a write
 
-    pub takes-put : (files : Option Files) (k k' : Shard) (w : Write) → CommandFits k.folder.schema (Put w) → IsMutation w.change → k'.folder ≡ k.folder → k'.cache.entries ≡ k.cache.entries → k'.segments ≡ k.segments → k'.readers.items ≡ k.readers.items → IsPutIn k.folder.schema w k.unstored k'.unstored → Takes (Stands lines) files k (Put w) replies.Fine files k'
+    pub takes-put : (files : Option Files) (k k' : Shard) (w : Write) → CommandFits k.folder.schema (Put w) → IsMutation w.change → k'.folder ≡ k.folder → k'.cache.entries ≡ k.cache.entries → k'.segments ≡ k.segments → k'.readers.items ≡ k.readers.items → TakesWrite k.folder.schema w k.unstored k'.unstored → Takes (Stands lines) files k (Put w) replies.Fine files k'
     takes-put files k k' w fits is folder cache segs items put = λ m s. (
       record m { log = m.log ++ w ∷ [] },
       inl (refl, refl),
       moved files k k' k'.unstored k.readers.items (record m { log = m.log ++ w ∷ [] }) folder refl cache segs items (written-for lines stays files k.folder k.unstored k'.unstored k.cache.entries k.readers.items k.segments m w fits is put s),
     )
 
-    pub takes-full : (files : Option Files) (k k' : Shard) (w : Write) → k'.folder ≡ k.folder → k'.cache.entries ≡ k.cache.entries → k'.segments ≡ k.segments → k'.readers.items ≡ k.readers.items → IsKept k.folder.schema k.unstored k'.unstored →
+    pub takes-full : (files : Option Files) (k k' : Shard) (w : Write) → k'.folder ≡ k.folder → k'.cache.entries ≡ k.cache.entries → k'.segments ≡ k.segments → k'.readers.items ≡ k.readers.items → KeepsUnstored k.folder.schema k.unstored k'.unstored →
         IsFull k'.unstored.chains → Takes (Stands lines) files k (Put w) (replies.Refused Full) files k'
     takes-full files k k' w folder cache segs items kept full = λ m s.
         let new = kept-for lines stays files k.folder k.unstored k'.unstored k.cache.entries k.readers.items k.segments m kept s in
@@ -221,6 +221,6 @@ module _ (lines : Opened → Memory → List OutLine → Type 0) where
         (m, inr (may-be-full k'.unstored.chains m new.sound live full.crowded, (refl, refl)), moved files k k' k'.unstored k.readers.items m folder refl cache segs items new)
 
     -- what was written stays, and so does what snapshots see
-    pub keeps-kept : (k k' : Shard) → k'.folder ≡ k.folder → k'.cache.entries ≡ k.cache.entries → k'.segments ≡ k.segments → k'.readers.items ≡ k.readers.items → ((schema : SchemaValue) → schema ≡ k.folder.schema → IsKept schema k.unstored k'.unstored) → Keeps (Stands lines) k k'
+    pub keeps-kept : (k k' : Shard) → k'.folder ≡ k.folder → k'.cache.entries ≡ k.cache.entries → k'.segments ≡ k.segments → k'.readers.items ≡ k.readers.items → ((schema : SchemaValue) → schema ≡ k.folder.schema → KeepsUnstored schema k.unstored k'.unstored) → StandsForTheSame (Stands lines) k k'
     keeps-kept k k' folder cache segs items kept = λ files m s.
         moved files k k' k'.unstored k.readers.items m folder refl cache segs items (kept-for lines stays files k.folder k.unstored k'.unstored k.cache.entries k.readers.items k.segments m (kept k.folder.schema refl) s)

@@ -14,7 +14,7 @@
 use Rattle.std.specs.Prelude.{◌≡◌, ◌==◌, ℕ, IfSome, IsSomeAnd, IsTrue, List, None, ⊤}
 use Rattle.std.specs.Map.{lookup}
 use Rattle.rc_position.specs.declared.positions.Pos.{Pos}
-use Rattle.rc_core.specs.Chain.{flagged}
+use Rattle.rc_core.specs.Chain.{has_flag}
 use Rattle.rc_registry.specs.ChainKind.{ChainKind}
 use Rattle.rc_registry.specs.Continuity.{static_states}
 use Rattle.rc_registry.specs.Version.{Version, end_position}
@@ -54,7 +54,7 @@ IsCachedAt k key x = IsCachedWhere (λ kind versions. IsKnownFrom (IsKnownAs kin
 
 -- the row cache knows the static row of a partition
 abbrev pub IsStaticCached : Shard → List ℕ → Type 0
-IsStaticCached k key = IsCachedWhere (λ kind versions. IsTrue (flagged kind (static_states versions))) k key
+IsStaticCached k key = IsCachedWhere (λ kind versions. IsTrue (has_flag kind (static_states versions))) k key
 
 -- of the key of an opening this holds
 abbrev pub OnOpening : Command → (List ℕ → Type 0) → Type 0

@@ -29,7 +29,7 @@ use Rattle.rc_lookup.specs.Footprint.{memtable_bytes}
 use Rattle.rc_opened.specs.declared.opened.Opened.{Opened}
 use Rattle.rc_opened.specs.Opened.{snaps_of}
 use Rattle.rc_folder.specs.Tabled.{Tabled}
-use Rattle.rc_machine.specs.State.{Reader, State, rest_of, unstored}
+use Rattle.rc_machine.specs.State.{Reader, State, rest_of, unstored_writes}
 use Rattle.rc_machine.specs.Standing.{IsOver}
 use Rattle.rc_shard.specs.declared.shard.Shard.{Shard}
 use Rattle.rc_shard.specs.Cached.{HaveCached}
@@ -39,7 +39,7 @@ pub record HaveUnstored (schema : SchemaValue) (u : Unstored 131072) (m : State)
   pub sealed : List Write
   pub later : List Write
   pub have : HaveWrites schema u sealed later
-  pub are : sealed ++ later ≡ unstored m
+  pub are : sealed ++ later ≡ unstored_writes m
   pub count : m.sealed ≡ m.stored + length sealed
 
 -- the writes of the state are such as the program has, and memtables take no more than they weigh

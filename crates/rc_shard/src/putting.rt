@@ -8,7 +8,7 @@ ghost use Rattle.rc_lookup.specs.Writes.{AreSmall};
 ghost use Rattle.rc_lookup.specs.Memtables.{HaveWrites, IsFullFor};
 ghost use Rattle.rc_shard.specs.Losing.{LosesForWrite};
 ghost use Rattle.rc_shard.specs.calls.Caching.{IsFull};
-ghost use Rattle.rc_shard.specs.calls.Storing.{IsKept, IsPutIn};
+ghost use Rattle.rc_shard.specs.calls.Storing.{KeepsUnstored, TakesWrite};
 
 use crate::leaving::{what_calls_leave_of_the_cache, what_is_live_is_of_memtables};
 use rc_lookup::Unstored;
@@ -29,13 +29,13 @@ pub(crate) fn put_in(
     requires single { IsSingle w.now.change }
     requires fits { ChangeFits schema.now w.now.change }
     requires kept { (writes : Sequence Written) × (later : Sequence Written) × HaveWrites schema.now unstored.old writes later }
-    ensures put { IfOk result (λ done. done ≡ true → IsPutIn schema.now w.now unstored.old unstored.new) }
-    ensures kept { IfOk result (λ done. done ≡ false → IsKept schema.now unstored.old unstored.new) }
+    ensures put { IfOk result (λ done. done ≡ true → TakesWrite schema.now w.now unstored.old unstored.new) }
+    ensures kept { IfOk result (λ done. done ≡ false → KeepsUnstored schema.now unstored.old unstored.new) }
     ensures none { IfOk result (λ done. done ≡ false → IsFullFor 131072 schema.now w.now unstored.new) }
     ensures full { IfOk result (λ done. done ≡ false → IsFull unstored.new.chains) }
     ensures skips { OnOk result (unstored.new.chains.counts.skipped ≡ unstored.old.chains.counts.skipped) }
     ensures crowds { OnOk result (LosesForWrite unstored.old.chains unstored.new.chains) }
-    ensures err { OnErr result (IsKept schema.now unstored.old unstored.new) }
+    ensures err { OnErr result (KeepsUnstored schema.now unstored.old unstored.new) }
 {
     a_write_evicts_where_memory_is_crowded();
     what_a_call_leaves_of_the_room();

@@ -40,9 +40,9 @@ ghost use Rattle.rc_shard.specs.Losing.{IsLostInCrowd, LosesForWrite, LosesInCro
 ghost use Rattle.rc_shard.specs.Knowing.{AsksNothingWhereKnown, IsCachedWhole, IsKnownOnceOpened, IsKnownStill, IsPartitionRecent, IsRecentOnceHit, IsTouchedAsGiven, StaysKnown};
 ghost use Rattle.rc_shard.specs.Opening.{IsOnePinned, IsOpenedAsTold, PinsPartition};
 ghost use Rattle.rc_shard.specs.Stands.{AreOfTwo, AreTwo, IsFullAsTold, holding};
-ghost use Rattle.rc_shard.specs.calls.Keeping.{CountsStay, Keeps, TellsOf};
+ghost use Rattle.rc_shard.specs.calls.Keeping.{CountsStay, StandsForTheSame, TellsOf};
 ghost use Rattle.rc_shard.specs.calls.Looking.{AreKnownStill, IsCacheLeft, IsCacheUsed, IsTabled, KeepsOver, UnlessMemory};
-ghost use Rattle.rc_shard.specs.calls.Storing.{IsFlushAnswered, IsKept};
+ghost use Rattle.rc_shard.specs.calls.Storing.{IsFlushAnswered, KeepsUnstored};
 
 use crate::compacting::compact;
 use crate::evicting::evict;
@@ -50,7 +50,7 @@ use crate::forgetting::forget_all;
 use crate::leaving::{what_calls_leave_of_the_cache, what_is_live_is_of_memtables};
 use crate::putting::put_in;
 use rc_census::census;
-use rc_folder::{Answered, Folder, Machine, OpenErr};
+use rc_folder::{Answered, Folder, MOST_READERS, Machine, OpenErr};
 use rc_lines::{Command, Figures, Refusal, Reply};
 use rc_lookup::footprint::what_is_let_go_counts_nothing;
 use rc_lookup::row_cache_laws::the_cache_says_what_lies_below;
@@ -70,9 +70,6 @@ use rc_stream::{ListFrags, StreamErr};
 use rc_tfile::WriteErr;
 use rc_writes::laws::what_says_the_same_fits;
 use std::alloc::{AllocError, Global};
-
-/// The most readers that may be open at once.
-const MOST_READERS: usize = 64;
 
 /// One shard: it takes one step of the machine after another. What is written and stands in no table lies in version chains, in a region
 /// of segments of 131,072 bytes, and so does what the row cache knows of the tables. An open reader pins the versions that it sees; what the
@@ -297,7 +294,7 @@ impl Shard {
         ensures skips { OnOk result (self.new.unstored.chains.counts.skipped ≡ self.old.unstored.chains.counts.skipped) }
         ensures crowds { OnOk result (LosesForWrite self.old.unstored.chains self.new.unstored.chains) }
         ensures left { IsCacheLeft self.old self.new }
-        ensures err { OnErr result (Keeps ⟦<Shard as Machine>⟧.stands self.old self.new) }
+        ensures err { OnErr result (StandsForTheSame ⟦<Shard as Machine>⟧.stands self.old self.new) }
         ensures counts { CountsStay self.old self.new }
     {
         what_is_left_stays_where_the_snapshots_see_the_same::<131_072>();
@@ -383,7 +380,7 @@ impl Shard {
         ensures whole { IfOk result (λ o. IfSome o (λ _. IsCachedWhole self.new key.now)) }
         ensures stays { (q : List ℕ) → IsKnownStill q self.old self.new }
         ensures hit { IfOk result (λ o. IfSome o (λ _. IsPartitionRecent key.now self.old self.new)) }
-        ensures keeps { Keeps ⟦<Shard as Machine>⟧.stands self.old self.new }
+        ensures keeps { StandsForTheSame ⟦<Shard as Machine>⟧.stands self.old self.new }
         ensures loses { LosesWhereCrowded 131072 0 self.old.unstored.chains self.new.unstored.chains }
         ensures beside { IsCacheUsed self.old self.new }
     {
@@ -473,7 +470,7 @@ impl Shard {
         ensures stays { IfOk result (λ _. (q : List ℕ) → IsKnownStill q self.old self.new) }
         ensures recency { IfOk result (λ _. (self.new.cache.entries ≡ self.old.cache.entries) × (self.new.unstored.chains.recency ≡ self.old.unstored.chains.recency)) }
         ensures loses { OnOk result (LosesWhereCrowded 131072 0 self.old.unstored.chains self.new.unstored.chains) }
-        ensures err { OnErr result (Keeps ⟦<Shard as Machine>⟧.stands self.old self.new) }
+        ensures err { OnErr result (StandsForTheSame ⟦<Shard as Machine>⟧.stands self.old self.new) }
         ensures counts { CountsStay self.old self.new }
     {
         what_is_left_stays_where_the_snapshots_see_the_same::<131_072>();
@@ -494,7 +491,7 @@ impl Shard {
         ensures left { IsCacheLeft self.old self.new }
         ensures touches { IfOk result (λ reply. IsTouchedAsGiven (Command.Read id count) reply self.old self.new) }
         ensures faultless { (n : ℕ) → IfOk result (λ reply. OnFaulty reply (Rose n n)) }
-        ensures err { OnErr result (Keeps ⟦<Shard as Machine>⟧.stands self.old self.new) }
+        ensures err { OnErr result (StandsForTheSame ⟦<Shard as Machine>⟧.stands self.old self.new) }
         ensures counts { CountsStay self.old self.new }
     {
         what_is_left_stays_where_the_snapshots_see_the_same::<131_072>();
@@ -568,7 +565,7 @@ impl Shard {
         requires stands { (m : State) × ⟦<Shard as Machine>⟧.stands (W.files store.old) self.old m }
         requires number { IsNextNumber self.old.folder.infos (Some number) }
         ensures written { IfOk result (IsFlushAnswered (W.files store.old) self.old number (W.files store.new) self.new) }
-        ensures err { OnErr result ((self.new.folder ≡ self.old.folder) × (self.new.cache ≡ self.old.cache) × IsKept self.old.folder.schema self.old.unstored self.new.unstored × (W.files store.new ≡ W.files store.old)) }
+        ensures err { OnErr result ((self.new.folder ≡ self.old.folder) × (self.new.cache ≡ self.old.cache) × KeepsUnstored self.old.folder.schema self.old.unstored self.new.unstored × (W.files store.new ≡ W.files store.old)) }
         ensures faults { FaultsAreCounted result (W.faults store.old) (W.faults store.new) }
         ensures asks { W.asks store.new ≡ W.asks store.old }
         ensures readers { self.new.readers ≡ self.old.readers }
@@ -610,7 +607,7 @@ fn open_in(
     ensures pins { IfOk result (PinsPartition key.now unstored.old unstored.new) }
     ensures key { IfOk result (λ o. o.key ≡ key.now) }
     ensures fresh { IfOk result (λ o. (s : Snapshot) → HasPin unstored.old.chains s.chain s.pin → IsNoneOf (snaps_of o) s) }
-    ensures kept { (schema : SchemaValue) → IsKept schema unstored.old unstored.new }
+    ensures kept { (schema : SchemaValue) → KeepsUnstored schema unstored.old unstored.new }
 {
     what_a_call_leaves_of_the_room();
     what_calls_leave_of_the_cache();

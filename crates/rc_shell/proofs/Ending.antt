@@ -8,7 +8,7 @@ use Rattle.std.proofs.KnownBytes.{Appends-trans, Appends-nil, Consumes-trans, Co
 use Rattle.rc_outside.specs.Faults.{Rose}
 use Rattle.rc_shell.specs.Lines.{IsLine, last_line}
 use Rattle.rc_shell.specs.Run.{piece_size, IsWhole, IsTextWritten, AnswersLines, Served, Due, Ran, EndedBecause}
-use Rattle.rc_shell.specs.calls.Feed.{FaultsAfter, DueOfLine, DueOfBytes, ServedLine, ServedLast, Serves, SoFar, EndedBy, kept}
+use Rattle.rc_shell.specs.calls.Feed.{FaultsAfter, DueOfLine, DueOfBytes, ServedLine, ServedLast, Serves, SoFar, EndedBy, kept_front}
 use Rattle.rc_shell.specs.Status.{status_of}
 use Rattle.rc_shell.specs.declared.status.Ending.TheVariants.{BadTable, StoreFault}
 use Rattle.rc_shell.specs.declared.status.Stop.{Stop}
@@ -25,8 +25,8 @@ take_none n [] e = refl
 take_none n (x ∷ xs) e = absurd (omega (arith, length-take (n + 1) (x ∷ xs)))
 
 -- nothing is kept of an empty line alone
-pub kept-none : (xs : List ℕ) → length (kept xs) ≡ 0 → xs ≡ []
-unfolding kept
+pub kept-none : (xs : List ℕ) → length (kept_front xs) ≡ 0 → xs ≡ []
+unfolding kept_front
 kept-none xs e = take_none 65536 xs e
 
 last_line-some : (rest : List ℕ) → rest ≢ [] → last_line rest ≡ rest ∷ []
@@ -42,7 +42,7 @@ caused_by (Ended StoreFault) i i' o o' same e = (same, e)
 
 module _ {State Seen : Type 0} (Step : State → List ℕ → List ℕ → State → Type 0) (Ends : State → List ℕ → Status → List ℕ → Seen → Type 0) (Leaves : State → Seen → Type 0) (segments : ℕ) where
   -- nothing is unfinished
-  pub nothing_left : (old : State) (rest held : List ℕ) (At : State → Type 0) (after : Seen) (before : Option (List ℕ)) (f : ℕ) → held ≡ kept rest → length held ≡ 0 → At old
+  pub nothing_left : (old : State) (rest held : List ℕ) (At : State → Type 0) (after : Seen) (before : Option (List ℕ)) (f : ℕ) → held ≡ kept_front rest → length held ≡ 0 → At old
       → ServedLast Step Ends Leaves old rest At after before before f f (Ok tt)
   nothing_left old rest held At after before f is none at =
       let empty : rest ≡ [] = kept-none rest (ap length (sym is) ∙ none) in
@@ -64,7 +64,7 @@ module _ {State Seen : Type 0} (Step : State → List ℕ → List ℕ → State
   pub went_on : (start : State) (At Next : State → Type 0) (held held' : List ℕ) (count n : ℕ) (left mid left' written between written' : Option (List ℕ)) (after : Seen) (i i1 i2 o o1 o2 : ℕ) (bytes : List ℕ)
       → SoFar Step Ends Leaves start At held count left mid written between i i1 o o1
       → Consumes mid left' bytes → length bytes ≡ n → i2 ≡ i1
-      → ((rest : List ℕ) (now : State) → IsLine rest → held ≡ kept rest → At now → Serves Step Ends Leaves now rest bytes Next held' after between written' o1 o2 (Ok tt))
+      → ((rest : List ℕ) (now : State) → IsLine rest → held ≡ kept_front rest → At now → Serves Step Ends Leaves now rest bytes Next held' after between written' o1 o2 (Ok tt))
       → SoFar Step Ends Leaves start Next held' (count + n) left left' written written' i i2 o o2
   went_on start At Next held held' count n left mid left' written between written' after i i1 i2 o o1 o2 bytes s took many same serves =
       let all = serves_more Step Ends Leaves start [] s.taken bytes At Next held held' after after written between written' o o1 o2 (Ok tt)
@@ -102,7 +102,7 @@ module _ {State Seen : Type 0} (Step : State → List ℕ → List ℕ → State
   pub stopped : (start : State) (limit : ℕ) (At Next : State → Type 0) (held held' : List ℕ) (count n : ℕ) (left mid left' written between written' : Option (List ℕ)) (after : Seen) (i i1 i2 o o1 o2 : ℕ) (bytes : List ℕ) (stop : Stop)
       → SoFar Step Ends Leaves start At held count left mid written between i i1 o o1
       → Consumes mid left' bytes → length bytes ≡ n → count + n ≤ limit → length bytes ≤ piece_size → i2 ≡ i1
-      → ((rest : List ℕ) (now : State) → IsLine rest → held ≡ kept rest → At now → Serves Step Ends Leaves now rest bytes Next held' after between written' o1 o2 (Err stop))
+      → ((rest : List ℕ) (now : State) → IsLine rest → held ≡ kept_front rest → At now → Serves Step Ends Leaves now rest bytes Next held' after between written' o1 o2 (Err stop))
       → Ran Step Ends Leaves (Run segments) start limit (status_of stop) left left' written written' after i i2 o o2
   stopped start limit At Next held held' count n left mid left' written between written' after i i1 i2 o o1 o2 bytes stop s took many few small same serves =
       let l = serves s.rest s.now s.fed.unfinished s.holds s.at in
@@ -184,7 +184,7 @@ module _ {State Seen : Type 0} (Step : State → List ℕ → List ℕ → State
   -- the end of the input was met, and a last line served
   pub input_ended : (start : State) (At Next : State → Type 0) (limit : ℕ) (held : List ℕ) (count : ℕ) (left mid left' written between written' : Option (List ℕ)) (after : Seen) (i i1 i2 o o1 o2 : ℕ)
       → SoFar Step Ends Leaves start At held count left mid written between i i1 o o1 → ((now : State) → Next now → Leaves now after) → count < limit → Consumes mid left' [] → IsAtEnd left' → i2 ≡ i1
-      → ((rest : List ℕ) (now : State) → held ≡ kept rest → At now → ServedLast Step Ends Leaves now rest Next after between written' o1 o2 (Ok tt))
+      → ((rest : List ℕ) (now : State) → held ≡ kept_front rest → At now → ServedLast Step Ends Leaves now rest Next after between written' o1 o2 (Ok tt))
       → Ran Step Ends Leaves (Run segments) start limit statuses.Done left left' written written' after i i2 o o2
   input_ended start At Next limit held count left mid left' written between written' after i i1 i2 o o1 o2 s leaves few none at_end same serves =
       let l = serves s.rest s.now s.holds s.at in
@@ -247,7 +247,7 @@ module _ {State Seen : Type 0} (Step : State → List ℕ → List ℕ → State
   -- a last line was not served whole
   pub end_stopped : (start : State) (At Next : State → Type 0) (limit : ℕ) (held : List ℕ) (count : ℕ) (left mid left' written between written' : Option (List ℕ)) (after : Seen) (i i1 i2 o o1 o2 : ℕ) (stop : Stop)
       → SoFar Step Ends Leaves start At held count left mid written between i i1 o o1 → count < limit → Consumes mid left' [] → IsAtEnd left' → i2 ≡ i1
-      → ((rest : List ℕ) (now : State) → held ≡ kept rest → At now → ServedLast Step Ends Leaves now rest Next after between written' o1 o2 (Err stop))
+      → ((rest : List ℕ) (now : State) → held ≡ kept_front rest → At now → ServedLast Step Ends Leaves now rest Next after between written' o1 o2 (Err stop))
       → Ran Step Ends Leaves (Run segments) start limit (status_of stop) left left' written written' after i i2 o o2
   end_stopped start At Next limit held count left mid left' written between written' after i i1 i2 o o1 o2 stop s few none at_end same serves =
       let l = serves s.rest s.now s.holds s.at in

@@ -4,7 +4,7 @@ use Rattle.std.specs.Prelude.{if◌then◌else◌, ⊤}
 use Rattle.std.specs.Option.{option_or}
 use Rattle.std.proofs.Math.Nat.{min-eq_left, min-eq_right, zero-min}
 use Rattle.std.proofs.lemmas.Bool.{cases_lt}
-use Rattle.rc_outside.specs.Faults.{raised}
+use Rattle.rc_outside.specs.Faults.{raised_count}
 use Rattle.rc_lines.specs.declared.commands.Command.{Command}
 use Rattle.rc_lines.specs.declared.commands.Figures.{Figures}
 use Rattle.rc_lines.specs.declared.commands.Refusal.{Refusal}
@@ -44,16 +44,16 @@ min-more most a t e = elim (cases_lt t most) [
   | inr high ↦ (let is : a ≡ most = e ∙ min-eq_right high in min-eq_right (omega (arith, is)) ∙ sym (min-eq_right (omega (arith, high))))
 ]
 
-more-min : (a t : ℕ) → a ≡ min t (2 ^ 64 - 1) → raised a ≡ min (t + 1) (2 ^ 64 - 1)
+more-min : (a t : ℕ) → a ≡ min t (2 ^ 64 - 1) → raised_count a ≡ min (t + 1) (2 ^ 64 - 1)
 more-min a t e = min-more (2 ^ 64 - 1) a t e
 
 -- the counts after a reply, by whether it answers and whether the store was asked for nothing
-hits-counted : (answers same : Bool) (a : Answered) (t : ℕ) → a.hits ≡ min t (2 ^ 64 - 1) → (cond answers (cond same (record a { hits = raised a.hits }) (record a { misses = raised a.misses })) a).hits ≡ min (if answers && same then t + 1 else t) (2 ^ 64 - 1)
+hits-counted : (answers same : Bool) (a : Answered) (t : ℕ) → a.hits ≡ min t (2 ^ 64 - 1) → (cond answers (cond same (record a { hits = raised_count a.hits }) (record a { misses = raised_count a.misses })) a).hits ≡ min (if answers && same then t + 1 else t) (2 ^ 64 - 1)
 hits-counted true true a t e = more-min a.hits t e
 hits-counted true false a t e = e
 hits-counted false same a t e = e
 
-misses-counted : (answers same : Bool) (a : Answered) (t : ℕ) → a.misses ≡ min t (2 ^ 64 - 1) → (cond answers (cond same (record a { hits = raised a.hits }) (record a { misses = raised a.misses })) a).misses ≡ min (if answers && not same then t + 1 else t) (2 ^ 64 - 1)
+misses-counted : (answers same : Bool) (a : Answered) (t : ℕ) → a.misses ≡ min t (2 ^ 64 - 1) → (cond answers (cond same (record a { hits = raised_count a.hits }) (record a { misses = raised_count a.misses })) a).misses ≡ min (if answers && not same then t + 1 else t) (2 ^ 64 - 1)
 misses-counted true true a t e = e
 misses-counted true false a t e = more-min a.misses t e
 misses-counted false same a t e = e

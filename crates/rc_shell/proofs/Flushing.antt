@@ -25,7 +25,7 @@ use Rattle.rc_machine.specs.laws.Folder.{IsPut, files_kept, files_new, one_of, w
 use Rattle.rc_machine.specs.laws.Changes.{change_of}
 use Rattle.rc_machine.specs.laws.Holding.{holds_at_first, holds_on, grows, schema_stays}
 use Rattle.rc_shell.specs.Run.{AnswersLines}
-use Rattle.rc_machine.specs.Built.{served}
+use Rattle.rc_machine.specs.Built.{served_meaning}
 use Rattle.rc_shell.specs.Step.{Moment, Stage, StoreView, Waiting, Serving, StageStep, LineStep, files_of, meaning_at, start_moment}
 use Rattle.rc_shell.specs.Holding.{OfLines, HoldsFlushed, IsFlushedFile, IsRunOf, write_accepted, accepted_writes}
 use Rattle.rc_shell.specs.declared.status.Status.{Status}
@@ -132,7 +132,7 @@ module _ (files : Option Files) (segments : ℕ) (line text : List ℕ) (all : S
     log = sym (none_more (all schema) _ (none schema) (no_write_at_schema line schema schema text p));
   })
 
-  waiting : (meaning : Result Command Refusal) (answer : Option Reply) (new : Stage) → served (parse None line) ≡ meaning → ((schema : SchemaValue) → all schema ≡ []) → StageStep segments (Waiting files) meaning answer text new → AtStage files new (and_line all line text)
+  waiting : (meaning : Result Command Refusal) (answer : Option Reply) (new : Stage) → served_meaning (parse None line) ≡ meaning → ((schema : SchemaValue) → all schema ≡ []) → StageStep segments (Waiting files) meaning answer text new → AtStage files new (and_line all line text)
   waiting (Ok Nothing) answer new p none s = waits new s.1 none (ap (λ t. is_word t (codes "ok\n")) s.0)
   waiting (Ok (SetSchema schema)) answer new p none s = opens new schema s.0 s.1 s.2 s.5 (served_ok (parse None line) (SetSchema schema) p) none
   waiting (Err refusal) answer new p none s = waits new s.1 none (ap (λ t. is_word t (codes "ok\n")) s.0 ∙ not_ok refusal)
@@ -172,7 +172,7 @@ module _ (files : Option Files) (segments : ℕ) (line text : List ℕ) (all : S
       log = h.log ∙ sym (append-nil (all m.schema)) ∙ ap (λ ws. all m.schema ++ ws) (sym none);
     })
 
-    serving : (meaning : Result Command Refusal) (answer : Option Reply) (new : Stage) → served (parse (Some m.schema) line) ≡ meaning → StageStep segments (Serving m) meaning answer text new → AtStage files new (and_line all line text)
+    serving : (meaning : Result Command Refusal) (answer : Option Reply) (new : Stage) → served_meaning (parse (Some m.schema) line) ≡ meaning → StageStep segments (Serving m) meaning answer text new → AtStage files new (and_line all line text)
     serving (Ok command) (Some reply) new p s = takes command reply s.0 new (served_ok (parse (Some m.schema) line) command p) s.1 s.2 s.3
     serving (Ok command) None new p s = absurd s
     serving (Err refusal) answer new p s = stays new s.1 (unaccepted (parse (Some m.schema) line) text (ap (λ t. is_word t (codes "ok\n")) s.0 ∙ not_ok refusal))

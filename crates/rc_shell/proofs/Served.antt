@@ -5,10 +5,10 @@ use Rattle.rc_lines.specs.declared.commands.Command.{Command}
 use Rattle.rc_lines.specs.declared.commands.Command.TheVariants.{Nothing, SetSchema, Put, OpenRead, Read, Close, Flush, FlushBegin, FlushStep, Evict, Compact, Clean, Stats}
 use Rattle.rc_lines.specs.declared.commands.Refusal.{Refusal}
 use Rattle.rc_lines.specs.declared.commands.Refusal.TheVariants.{BadLine}
-use Rattle.rc_machine.specs.Built.{is_built, served}
+use Rattle.rc_machine.specs.Built.{is_built, served_meaning}
 
 -- a command is served as it is, or as a bad line
-pub served_as : (command : Command) → served (Ok command) ≡ (if is_built command then Ok command else Err BadLine)
+pub served_as : (command : Command) → served_meaning (Ok command) ≡ (if is_built command then Ok command else Err BadLine)
 served_as Nothing = refl
 served_as (SetSchema schema) = refl
 served_as (Put w) = refl
@@ -24,7 +24,7 @@ served_as (Clean count) = refl
 served_as Stats = refl
 
 -- a command is what the line means
-pub served_ok : (meaning : Result Command Refusal) (command : Command) → served meaning ≡ Ok command → meaning ≡ Ok command
+pub served_ok : (meaning : Result Command Refusal) (command : Command) → served_meaning meaning ≡ Ok command → meaning ≡ Ok command
 served_ok (Err refusal) command e = absurd (cc)
 served_ok (Ok other) command e = built (is_built other) (sym (served_as other) ∙ e)
   where
@@ -33,7 +33,7 @@ served_ok (Ok other) command e = built (is_built other) (sym (served_as other) �
     built false f = absurd (cc)
 
 -- what holds of a bad line and of each refusal of a line holds of its refusals
-pub served_is : (P : Refusal → Type 0) → P BadLine → (meaning : Result Command Refusal) → ((refusal : Refusal) → meaning ≡ Err refusal → P refusal) → (refusal : Refusal) → served meaning ≡ Err refusal → P refusal
+pub served_is : (P : Refusal → Type 0) → P BadLine → (meaning : Result Command Refusal) → ((refusal : Refusal) → meaning ≡ Err refusal → P refusal) → (refusal : Refusal) → served_meaning meaning ≡ Err refusal → P refusal
 served_is P bad (Err other) all refusal e = all refusal e
 served_is P bad (Ok command) all refusal e = elim (is_built command) as (λ b. (if b then Ok command else Err BadLine) ≡ Err refusal → P refusal) [
   | true ↦ λ f. absurd (cc)

@@ -7,7 +7,7 @@ use Rattle.rc_outside.specs.Faults.{Rose}
 use Rattle.rc_shell.proofs.Cuts.{joined_lines}
 use Rattle.rc_shell.specs.Lines.{IsLine, BeginsWithLines, IsNextLine}
 use Rattle.rc_shell.specs.Run.{IsWhole, IsCutOff, IsTextWritten, AnswersLines, Served}
-use Rattle.rc_shell.specs.calls.Feed.{IsEnded, PushedText, PushedEnding, FaultsAfter, DueOfLine, DueOfBytes, ServedLine, Serves, kept}
+use Rattle.rc_shell.specs.calls.Feed.{IsEnded, PushedText, PushedEnding, FaultsAfter, DueOfLine, DueOfBytes, ServedLine, Serves, kept_front}
 use Rattle.rc_shell.specs.Status.{status_at, status_of}
 use Rattle.rc_shell.specs.declared.status.Status.{Status}
 use Rattle.rc_shell.specs.declared.status.Status.TheVariants as statuses
@@ -48,16 +48,16 @@ take-push n xs b few =
 pub take-full : (n : ℕ) (xs : List ℕ) (b : ℕ) → n ≤ length (take n xs) → take n (xs ++ b ∷ []) ≡ take n xs
 take-full n xs b many = let long : n ≤ length xs = omega (arith, length-take n xs) in take-append-le n xs (b ∷ []) long
 
-pub kept-push : (xs : List ℕ) (b : ℕ) → length (kept xs) < 65537 → kept (xs ++ b ∷ []) ≡ kept xs ++ b ∷ []
-unfolding kept
+pub kept-push : (xs : List ℕ) (b : ℕ) → length (kept_front xs) < 65537 → kept_front (xs ++ b ∷ []) ≡ kept_front xs ++ b ∷ []
+unfolding kept_front
 kept-push xs b few = take-push 65537 xs b few
 
-pub kept-full : (xs : List ℕ) (b : ℕ) → 65537 ≤ length (kept xs) → kept (xs ++ b ∷ []) ≡ kept xs
-unfolding kept
+pub kept-full : (xs : List ℕ) (b : ℕ) → 65537 ≤ length (kept_front xs) → kept_front (xs ++ b ∷ []) ≡ kept_front xs
+unfolding kept_front
 kept-full xs b many = take-full 65537 xs b many
 
-pub kept-nil : kept [] ≡ []
-unfolding kept
+pub kept-nil : kept_front [] ≡ []
+unfolding kept_front
 kept-nil = refl
 
 -- the output's faults after a stop, counted from before
@@ -200,7 +200,7 @@ module _ {State Seen : Type 0} (Step : State → List ℕ → List ℕ → State
 
   -- a byte that ends no line
   pub byte_held : (old : State) (rest : List ℕ) (b : ℕ) (At : State → Type 0) (held : List ℕ) (after : Seen) (before : Option (List ℕ)) (f : ℕ)
-      → IsLine rest → b ≢ 10 → At old → held ≡ kept (rest ++ b ∷ []) → Serves Step Ends Leaves old rest (b ∷ []) At held after before before f f (Ok tt)
+      → IsLine rest → b ≢ 10 → At old → held ≡ kept_front (rest ++ b ∷ []) → Serves Step Ends Leaves old rest (b ∷ []) At held after before before f f (Ok tt)
   byte_held old rest b At held after before f line other at is = (
     [],
     rest ++ b ∷ [],
@@ -219,7 +219,7 @@ module _ {State Seen : Type 0} (Step : State → List ℕ → List ℕ → State
 
   -- nothing yet
   pub nothing_fed : (old : State) (rest : List ℕ) (At : State → Type 0) (held : List ℕ) (after : Seen) (before : Option (List ℕ)) (f : ℕ)
-      → IsLine rest → held ≡ kept rest → At old → Serves Step Ends Leaves old rest [] At held after before before f f (Ok tt)
+      → IsLine rest → held ≡ kept_front rest → At old → Serves Step Ends Leaves old rest [] At held after before before f f (Ok tt)
   nothing_fed old rest At held after before f line is at = (
     [],
     rest,
@@ -256,7 +256,7 @@ module _ {State Seen : Type 0} (Step : State → List ℕ → List ℕ → State
   -- bytes, and then more
   pub serves_more : (old : State) (rest b c : List ℕ) (At Next : State → Type 0) (held held' : List ℕ) (after next : Seen) (before between now : Option (List ℕ)) (f f1 f2 : ℕ) (r : Result Unit Stop)
       → Serves Step Ends Leaves old rest b At held after before between f f1 (Ok tt)
-      → ((left : List ℕ) (mid : State) → IsLine left → held ≡ kept left → At mid → Serves Step Ends Leaves mid left c Next held' next between now f1 f2 r)
+      → ((left : List ℕ) (mid : State) → IsLine left → held ≡ kept_front left → At mid → Serves Step Ends Leaves mid left c Next held' next between now f1 f2 r)
       → Serves Step Ends Leaves old rest (b ++ c) Next held' next before now f f2 r
   serves_more old rest b c At Next held held' after next before between now f f1 f2 (Ok u) p q =
       let s = q p.1 p.2 p.3.unfinished p.5 p.4 in (
@@ -286,7 +286,7 @@ module _ {State Seen : Type 0} (Step : State → List ℕ → List ℕ → State
 
   -- a byte that ends no line was kept, or there was no memory for it
   pub byte_taken : (old : State) (rest : List ℕ) (b : ℕ) (At : State → Type 0) (held : List ℕ) (after : Seen) (before : Option (List ℕ)) (f : ℕ) (r : Result Unit Stop)
-      → IsLine rest → b ≢ 10 → At old → Leaves old after → OnOk r (held ≡ kept (rest ++ b ∷ [])) → IfErr r (λ stop. stop ≡ NoMemory)
+      → IsLine rest → b ≢ 10 → At old → Leaves old after → OnOk r (held ≡ kept_front (rest ++ b ∷ [])) → IfErr r (λ stop. stop ≡ NoMemory)
       → Serves Step Ends Leaves old rest (b ∷ []) At held after before before f f r
   byte_taken old rest b At held after before f (Ok u) line other at leaves is stop = byte_held old rest b At held after before f line other at is
   byte_taken old rest b At held after before f (Err NoMemory) line other at leaves is stop = byte_refused old rest (b ∷ []) At held after before f leaves

@@ -26,7 +26,7 @@ use Rattle.rc_lines.specs.declared.commands.Figures.{Figures}
 use Rattle.rc_folder.specs.Counting.{AreCounted, AreFresh}
 use Rattle.rc_folder.specs.Tabled.{Tabled}
 use Rattle.rc_shell.specs.calls.Feed.{Answered}
-use Rattle.rc_machine.specs.Built.{served}
+use Rattle.rc_machine.specs.Built.{served_meaning}
 use Rattle.rc_shell.specs.Step.{Moment, Stage, StoreView, Waiting, Serving, StageStep, LineStep, EndsRun, EndsRunAt, LeavesStore, MayAsk, MayHaveAsked, Statistics, files_of, meaning_at, nothing_told, start_moment, bad_table, tells_fault, told_after}
 use Rattle.rc_shell.specs.Late.{GoesBy, IsBudget, KeepsMoment, ServesAt, WaitsAt}
 use Rattle.rc_shell.specs.calls.Late.{schema_set}
@@ -86,11 +86,11 @@ uncounted text before now none le = (le, λ t. absurd (clash (tells_fault text) 
 le_same : (a b : ℕ) → a ≡ b → a ≤ b
 le_same a b e = omega (arith, e)
 
-parsed : (line : List ℕ) (command : Command) → served (parse None line) ≡ Ok command → parse None line ≡ Ok command
+parsed : (line : List ℕ) (command : Command) → served_meaning (parse None line) ≡ Ok command → parse None line ≡ Ok command
 parsed line command p = served_ok (parse None line) command p
 
 -- a refused line tells no fault
-plain_served : (taken : Option SchemaValue) (line : List ℕ) (refusal : Refusal) → served (parse taken line) ≡ Err refusal → tells_fault (refusal_text refusal) ≡ false
+plain_served : (taken : Option SchemaValue) (line : List ℕ) (refusal : Refusal) → served_meaning (parse taken line) ≡ Err refusal → tells_fault (refusal_text refusal) ≡ false
 plain_served taken line refusal p = served_is (λ r. tells_fault (refusal_text r) ≡ false) refl (parse taken line) (plain taken line) refusal p
 
 -- at most so many ranges were asked for while the files were checked, where they are told
@@ -106,7 +106,7 @@ left_waiting segments store store' old s same le checks = (
 )
 
 -- a schema line, by its meaning
-pub schema_line : (line : List ℕ) (command : Command) (schema : SchemaValue) → served (parse None line) ≡ Ok command → schema_set command ≡ Some schema → parse None line ≡ Ok (SetSchema schema)
+pub schema_line : (line : List ℕ) (command : Command) (schema : SchemaValue) → served_meaning (parse None line) ≡ Ok command → schema_set command ≡ Some schema → parse None line ≡ Ok (SetSchema schema)
 schema_line line command schema p some = elim (early line command (parsed line command p)) as (λ e. parse None line ≡ Ok (SetSchema schema)) [
   | inl e ↦ absurd (let n : schema_set Nothing ≡ Some schema = subst (λ c. schema_set c ≡ Some schema) e some in cc)
   | inr e ↦ (let n : schema_set (SetSchema e.0) ≡ Some schema = subst (λ c. schema_set c ≡ Some schema) e.1 some in
@@ -137,7 +137,7 @@ bad_answered segments store store' old schema At n damage line before now s p sa
   (
     left_waiting segments store store' old s same le checks,
     subst (λ st. EndsRunAt st (meaning_at st line) statuses.BadTable (bad_table n damage) old.faults store'.1) (sym s.0)
-        (subst (λ meaning. EndsRunAt (Waiting store.0) meaning statuses.BadTable (bad_table n damage) old.faults store'.1) (sym (ap served p)) (n, damage, first, refl)),
+        (subst (λ meaning. EndsRunAt (Waiting store.0) meaning statuses.BadTable (bad_table n damage) old.faults store'.1) (sym (ap served_meaning p)) (n, damage, first, refl)),
   ),
   e,
 )
@@ -151,7 +151,7 @@ fault_answered segments store store' old schema At line before now s p same rose
   (
     left_waiting segments store store' old s same le checks,
     subst (λ st. EndsRunAt st (meaning_at st line) statuses.StoreFault (codes "! store fault\n") old.faults store'.1) (sym s.0)
-        (subst (λ meaning. EndsRunAt (Waiting store.0) meaning statuses.StoreFault (codes "! store fault\n") old.faults store'.1) (sym (ap served p)) (refl, subst (λ n. Rose n store'.1) (sym s.1) rose)),
+        (subst (λ meaning. EndsRunAt (Waiting store.0) meaning statuses.StoreFault (codes "! store fault\n") old.faults store'.1) (sym (ap served_meaning p)) (refl, subst (λ n. Rose n store'.1) (sym s.1) rose)),
   ),
   e,
 )
@@ -197,14 +197,14 @@ module _ {Kept : Type 0} (Stands : Option Files → Kept → State → Type 0) (
   open_closes told place k m is s = subst (MayClose Stands) (sym is) (told, m, s)
 
   -- a line that means nothing, before a schema line
-  pub none_answered : (segments : ℕ) (place : Option Kept) (store : StoreView) (old : Moment) (line : List ℕ) (command : Command) (items : List ℕ) → place ≡ None → WaitsAt segments store old → served (parse None line) ≡ Ok command → schema_set command ≡ None
+  pub none_answered : (segments : ℕ) (place : Option Kept) (store : StoreView) (old : Moment) (line : List ℕ) (command : Command) (items : List ℕ) → place ≡ None → WaitsAt segments store old → served_meaning (parse None line) ≡ Ok command → schema_set command ≡ None
       → Answered LineStep EndsRun LeavesStore old line (KeepsMoment Stands figures segments place store) store items items (Ok None)
   none_answered segments place store old line command items free s p none =
       let is : command ≡ Nothing = elim (early line command (parsed line command p)) as (λ e. command ≡ Nothing) [
         | inl e ↦ e
         | inr e ↦ absurd (let n : schema_set (SetSchema e.0) ≡ None = subst (λ c. schema_set c ≡ None) e.1 none in cc)
       ] in
-      let means : served (parse None line) ≡ Ok Nothing = p ∙ ap (λ c. Ok c) is in
+      let means : served_meaning (parse None line) ≡ Ok Nothing = p ∙ ap (λ c. Ok c) is in
       let asked = no_more old store.2 s.2 in (
         [],
         next_moment old (Waiting store.0) store.1 store.2 0 old.told,
@@ -216,7 +216,7 @@ module _ {Kept : Type 0} (Stands : Option Files → Kept → State → Type 0) (
       )
 
   -- a line that is refused, before a schema line
-  pub refused_answered : (segments : ℕ) (place : Option Kept) (store : StoreView) (old : Moment) (line : List ℕ) (refusal : Refusal) (before now : List ℕ) → place ≡ None → WaitsAt segments store old → served (parse None line) ≡ Err refusal
+  pub refused_answered : (segments : ℕ) (place : Option Kept) (store : StoreView) (old : Moment) (line : List ℕ) (refusal : Refusal) (before now : List ℕ) → place ≡ None → WaitsAt segments store old → served_meaning (parse None line) ≡ Err refusal
       → now ≡ before ++ refusal_text refusal → Answered LineStep EndsRun LeavesStore old line (KeepsMoment Stands figures segments place store) store before now (Ok None)
   refused_answered segments place store old line refusal before now free s p e =
       let asked = no_more old store.2 s.2 in (
@@ -238,7 +238,7 @@ module _ {Kept : Type 0} (Stands : Option Files → Kept → State → Type 0) (
       → store.1 ≤ store'.1 → Checks store.0 store.2 store'.2 → now ≡ before ++ reply_text (folder k).schema replies.Fine
       → Answered LineStep EndsRun LeavesStore old line (KeepsMoment Stands figures segments place store') store' before now (Ok None)
   opened_answered segments store store' old schema place k tables infos line before now is s p are listed stands fresh le checks e =
-      let means : served (parse None line) ≡ Ok (SetSchema schema) = ap served p in
+      let means : served_meaning (parse None line) ≡ Ok (SetSchema schema) = ap served_meaning p in
       let bound : ℕ = bound_at store.0 store.2 store'.2 in (
         reply_text schema replies.Fine,
         next_moment old (Serving (opened_state old.segments store.0 schema tables infos)) store'.1 store'.2 bound (nothing_told store'.2),
@@ -264,9 +264,9 @@ module _ {Kept : Type 0} (Stands : Option Files → Kept → State → Type 0) (
     pub counted : AreCounted command reply store.2 store'.2 (figures k) (figures k')
 
   module _ (store store' : StoreView) (k k' : Kept) (old : Moment) (line : List ℕ) (command : Command) (reply : Reply) (s : ServesAt Stands figures k store old)
-      (p : served (parse (Some (folder k).schema) line) ≡ Ok command) (d : Served store store' k k' s.0 command reply) where
-    means : served (parse (Some (s.0).schema) line) ≡ Ok command
-    means = ap (λ z. served (parse (Some z) line)) (over store.0 k s.0 s.1).schema ∙ p
+      (p : served_meaning (parse (Some (folder k).schema) line) ≡ Ok command) (d : Served store store' k k' s.0 command reply) where
+    means : served_meaning (parse (Some (s.0).schema) line) ≡ Ok command
+    means = ap (λ z. served_meaning (parse (Some z) line)) (over store.0 k s.0 s.1).schema ∙ p
 
     same_schema : (folder k').schema ≡ (s.0).schema
     same_schema = sym (over store'.0 k' d.next d.stands).schema ∙ schema_stays s.0 command reply d.next (change_of s.0 command reply d.next d.step)
@@ -310,10 +310,10 @@ module _ {Kept : Type 0} (Stands : Option Files → Kept → State → Type 0) (
   stopped_answered store store' k k' old line command before now (Ok x) is s same le asks = absurd (cc)
 
   -- a line that is refused, once the machine is open
-  pub refusal_answered : (store : StoreView) (k : Kept) (old : Moment) (line before now : List ℕ) (refusal : Refusal) → ServesAt Stands figures k store old → served (parse (Some (folder k).schema) line) ≡ Err refusal
+  pub refusal_answered : (store : StoreView) (k : Kept) (old : Moment) (line before now : List ℕ) (refusal : Refusal) → ServesAt Stands figures k store old → served_meaning (parse (Some (folder k).schema) line) ≡ Err refusal
       → now ≡ before ++ refusal_text refusal → Answered LineStep EndsRun LeavesStore old line (ServesAt Stands figures k store) store before now (Ok None)
   refusal_answered store k old line before now refusal s p e =
-      let means : served (parse (Some (s.0).schema) line) ≡ Err refusal = ap (λ z. served (parse (Some z) line)) (over store.0 k s.0 s.1).schema ∙ p in
+      let means : served_meaning (parse (Some (s.0).schema) line) ≡ Err refusal = ap (λ z. served_meaning (parse (Some z) line)) (over store.0 k s.0 s.1).schema ∙ p in
       let asked = no_more old store.2 s.4 in (
         refusal_text refusal,
         next_moment old (Serving s.0) store.1 store.2 0 old.told,

@@ -20,7 +20,7 @@ use Rattle.rc_lines.specs.Grammar.{parse}
 use Rattle.rc_folder.specs.Counting.{NoneFell, figures_in, is_answered}
 use Rattle.rc_spelling.specs.Words.{is_word}
 use Rattle.rc_lines.specs.Texts.{reply_text, refusal_text}
-use Rattle.rc_machine.specs.Built.{served}
+use Rattle.rc_machine.specs.Built.{served_meaning}
 use Rattle.rc_machine.specs.State.{State, Table, opened_state}
 use Rattle.rc_machine.specs.Serving.{most_asks, checks_of}
 use Rattle.rc_machine.specs.Steps.{Steps}
@@ -82,8 +82,8 @@ LeavesStore now store = (store.0 ≡ files_of now.stage) × (now.faults ≤ stor
 
 -- what a line means at a stage: under the schema that was taken, if one was
 abbrev pub meaning_at : Stage → List ℕ → Result Command Refusal
-meaning_at (Waiting files) line = served (parse None line)
-meaning_at (Serving m) line = served (parse (Some m.schema) line)
+meaning_at (Waiting files) line = served_meaning (parse None line)
+meaning_at (Serving m) line = served_meaning (parse (Some m.schema) line)
 
 -- What a line does at a stage, by its meaning. Before a schema line was taken a schema line opens the machine over the folder's tables; then a
 -- command takes a step of the machine, with this reply. A refused line changes nothing.

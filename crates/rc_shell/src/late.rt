@@ -8,7 +8,7 @@ ghost use Rattle.rc_outside.specs.Files.{Files};
 ghost use Rattle.rc_machine.specs.State.{State};
 ghost use Rattle.rc_machine.specs.Built.{is_built};
 ghost use Rattle.rc_shell.specs.calls.Feed.{Answered};
-ghost use Rattle.rc_machine.specs.Built.{served};
+ghost use Rattle.rc_machine.specs.Built.{served_meaning};
 ghost use Rattle.rc_shell.specs.Step.{Moment, LineStep, EndsRun, LeavesStore, bad_table};
 ghost use Rattle.rc_shell.specs.Late.{IsBudget, KeepsMoment, ServesAt, WaitsAt};
 ghost use Rattle.rc_shell.specs.calls.Late.{schema_set};
@@ -86,7 +86,7 @@ impl<M> LateMachine<M> {
 
 /// The command of a line, under the schema that was taken, where the program serves it: a line of any other command is a bad line.
 fn read_served(alloc: Global, schema: Option<&Schema>, line: &[u8]) -> Result<Command, LineErr>
-    ensures reads { ReadsLine result (served (parse (option_copied schema.entry) line.now)) }
+    ensures reads { ReadsLine result (served_meaning (parse (option_copied schema.entry) line.now)) }
     ensures built { IfOk result (λ command. IsTrue (is_built command)) }
 {
     match read_line(alloc, schema, line) {

@@ -1,7 +1,7 @@
 //! What answers the lines.
 
 ghost use Rattle.std.specs.Prelude.{◌≡◌, ℕ, List, ◌++◌, OnOk};
-ghost use Rattle.rc_shell.specs.calls.Feed.{Answered, kept};
+ghost use Rattle.rc_shell.specs.calls.Feed.{Answered, kept_front};
 ghost use Rattle.rc_shell.specs.Step.{Moment, StoreView, LineStep, EndsRun, LeavesStore};
 
 use crate::status::Ending;

@@ -4,7 +4,7 @@ ghost use Rattle.std.specs.Prelude.{◌≡◌, ℕ, ◌+◌, ◌<◌, ◌≤◌,
 ghost use Rattle.std.specs.Io.KnownBytes.{Appends, IsAtEnd};
 ghost use Rattle.rc_outside.specs.Faults.{Rose};
 ghost use Rattle.rc_shell.specs.Lines.{IsLine};
-ghost use Rattle.rc_shell.specs.calls.Feed.{PushedText, PushedAnswer, ServedLine, ServedLast, Serves, SoFar, TurnGave, EndedBy, kept};
+ghost use Rattle.rc_shell.specs.calls.Feed.{PushedText, PushedAnswer, ServedLine, ServedLast, Serves, SoFar, TurnGave, EndedBy, kept_front};
 ghost use Rattle.rc_shell.specs.Run.{piece_size, Ran};
 ghost use Rattle.rc_shell.specs.calls.Status.{stop_by};
 ghost use Rattle.rc_shell.specs.Step.{Moment, LineStep, EndsRun, LeavesStore};
@@ -85,7 +85,7 @@ impl<S: Server> Session<S> {
         out: &mut K,
     ) -> Result<(), Stop>
         requires stands { (now : Moment) × S.stands self.old.server (W.files store.old, W.faults store.old, W.asks store.old) now }
-        ensures served { (line : List ℕ) (old : Moment) → self.old.held.items ≡ kept line → S.stands self.old.server (W.files store.old, W.faults store.old, W.asks store.old) old →
+        ensures served { (line : List ℕ) (old : Moment) → self.old.held.items ≡ kept_front line → S.stands self.old.server (W.files store.old, W.faults store.old, W.asks store.old) old →
             ServedLine LineStep EndsRun LeavesStore old line (S.stands self.new.server (W.files store.new, W.faults store.new, W.asks store.new)) (W.files store.new, W.faults store.new, W.asks store.new)
             (K.written out.old) (K.written out.new) (K.faults out.old) (K.faults out.new) result }
         ensures stands { OnOk result ((now : Moment) × S.stands self.new.server (W.files store.new, W.faults store.new, W.asks store.new) now) }
@@ -106,7 +106,7 @@ impl<S: Server> Session<S> {
     /// Keeps a byte of the unfinished line, as far as it may be a line that is not too long.
     fn hold(&mut self, byte: u8) -> Result<(), Stop>
         ensures server { self.new.server ≡ self.old.server }
-        ensures held { OnOk result ((line : List ℕ) → self.old.held.items ≡ kept line → self.new.held.items ≡ kept (line ++ byte ∷ [])) }
+        ensures held { OnOk result ((line : List ℕ) → self.old.held.items ≡ kept_front line → self.new.held.items ≡ kept_front (line ++ byte ∷ [])) }
         ensures memory { IfErr result (λ stop. stop ≡ Stop.NoMemory) }
     {
         if self.held.len() <= LONGEST_LINE {
@@ -127,7 +127,7 @@ impl<S: Server> Session<S> {
         out: &mut K,
     ) -> Result<(), Stop>
         requires stands { (now : Moment) × S.stands self.old.server (W.files store.old, W.faults store.old, W.asks store.old) now }
-        ensures served { (rest : List ℕ) (old : Moment) → IsLine rest → self.old.held.items ≡ kept rest → S.stands self.old.server (W.files store.old, W.faults store.old, W.asks store.old) old →
+        ensures served { (rest : List ℕ) (old : Moment) → IsLine rest → self.old.held.items ≡ kept_front rest → S.stands self.old.server (W.files store.old, W.faults store.old, W.asks store.old) old →
             Serves LineStep EndsRun LeavesStore old rest (byte ∷ []) (S.stands self.new.server (W.files store.new, W.faults store.new, W.asks store.new)) self.new.held.items (W.files store.new, W.faults store.new, W.asks store.new)
             (K.written out.old) (K.written out.new) (K.faults out.old) (K.faults out.new) result }
         ensures stands { OnOk result ((now : Moment) × S.stands self.new.server (W.files store.new, W.faults store.new, W.asks store.new) now) }
@@ -148,7 +148,7 @@ impl<S: Server> Session<S> {
         out: &mut K,
     ) -> Result<(), Stop>
         requires stands { (now : Moment) × S.stands self.old.server (W.files store.old, W.faults store.old, W.asks store.old) now }
-        ensures served { (rest : List ℕ) (old : Moment) → IsLine rest → self.old.held.items ≡ kept rest → S.stands self.old.server (W.files store.old, W.faults store.old, W.asks store.old) old →
+        ensures served { (rest : List ℕ) (old : Moment) → IsLine rest → self.old.held.items ≡ kept_front rest → S.stands self.old.server (W.files store.old, W.faults store.old, W.asks store.old) old →
             Serves LineStep EndsRun LeavesStore old rest piece.now (S.stands self.new.server (W.files store.new, W.faults store.new, W.asks store.new)) self.new.held.items (W.files store.new, W.faults store.new, W.asks store.new)
             (K.written out.old) (K.written out.new) (K.faults out.old) (K.faults out.new) result }
         ensures stands { OnOk result ((now : Moment) × S.stands self.new.server (W.files store.new, W.faults store.new, W.asks store.new) now) }
@@ -168,7 +168,7 @@ impl<S: Server> Session<S> {
         out: &mut K,
     ) -> Result<(), Stop>
         requires stands { (now : Moment) × S.stands self.old.server (W.files store.old, W.faults store.old, W.asks store.old) now }
-        ensures served { (rest : List ℕ) (old : Moment) → self.old.held.items ≡ kept rest → S.stands self.old.server (W.files store.old, W.faults store.old, W.asks store.old) old →
+        ensures served { (rest : List ℕ) (old : Moment) → self.old.held.items ≡ kept_front rest → S.stands self.old.server (W.files store.old, W.faults store.old, W.asks store.old) old →
             ServedLast LineStep EndsRun LeavesStore old rest (S.stands self.new.server (W.files store.new, W.faults store.new, W.asks store.new)) (W.files store.new, W.faults store.new, W.asks store.new)
             (K.written out.old) (K.written out.new) (K.faults out.old) (K.faults out.new) result }
         ensures closes { S.closes self.new.server }

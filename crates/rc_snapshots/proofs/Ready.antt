@@ -9,7 +9,7 @@ use Rattle.rc_core.specs.declared.entries.ChainKind.{ChainKind}
 use Rattle.rc_core.specs.declared.entries.ChainKind.TheVariants.{Memtable}
 use Rattle.rc_core.specs.declared.entries.Flag.{Flag}
 use Rattle.rc_core.specs.declared.entries.Flag.TheVariants.{Inherit}
-use Rattle.rc_core.specs.Chain.{IsKnown, base, content, flagged, flagged_from, newer_first, states_at}
+use Rattle.rc_core.specs.Chain.{IsKnown, base, content, flagged_from, has_flag, newer_first, states_at}
 use Rattle.rc_core.specs.Chains.{AllInherit}
 use Rattle.rc_core.specs.Continuity.{EachOf, static_states}
 use Rattle.rc_core.specs.Version.{On, Version, end_position, static_state}
@@ -43,7 +43,7 @@ no-base : (versions : List Version) → EachOf AllInherit versions → base (sta
 no-base [] h = refl
 no-base (v ∷ vs) h = undecided (static_state v).flag (base (static_states vs)) (no-base vs h.1) h.0.statics
 
-statics-flagged : (versions : List Version) → EachOf AllInherit versions → flagged Memtable (static_states versions) ≡ true
+statics-flagged : (versions : List Version) → EachOf AllInherit versions → has_flag Memtable (static_states versions) ≡ true
 statics-flagged versions h = ap (λ b. flagged_from Memtable b (static_states versions)) (no-base versions h)
 
 -- ---- a new stream
@@ -78,7 +78,7 @@ module _ (known : (versions : List Version) → EachOf AllInherit versions → (
   all-known : IsAllKnown (kn.knows (from_start s) m) (kn.heads (from_start s) m) first_position end_position
   all-known = record {
     each = λ y _ _. (content (states_at (On y) (versions_seen m s)), record { known = subst (λ q. IsKnown q (versions_seen m s) y) (sym sees.kind) (known (versions_seen m s) sees.inherit y); there = refl });
-    head = λ at h. h.known ∙ ap (λ q. flagged q (static_states (versions_seen m s))) sees.kind ∙ statics-flagged (versions_seen m s) sees.inherit;
+    head = λ at h. h.known ∙ ap (λ q. has_flag q (static_states (versions_seen m s))) sees.kind ∙ statics-flagged (versions_seen m s) sees.inherit;
   }
 
   -- the snapshot stands for all writes that say the same

@@ -7,7 +7,7 @@ use Rattle.rc_cell.specs.declared.rows.Row.{Row}
 use Rattle.rc_cell.specs.Orders.{tomb_cmp}
 use Rattle.rc_cell.specs.Winner.{greatest}
 use Rattle.rc_position.specs.declared.positions.Pos.{Pos}
-use Rattle.rc_core.specs.Chain.{content, flagged}
+use Rattle.rc_core.specs.Chain.{content, has_flag}
 use Rattle.rc_core.specs.Continuity.{static_states, version_tombs}
 use Rattle.rc_core.specs.declared.entries.ChainKind.{ChainKind}
 use Rattle.rc_core.specs.Version.{Version}
@@ -32,13 +32,13 @@ KnowsNamed m f = IsKnownAs (chain_kind_named m f) (versions_named m f)
 
 -- this is its static row, which is known
 abbrev pub KnowsStaticsNamed : Memory → NoFiller → Row → Type 0
-KnowsStaticsNamed m f row = IsTrue (flagged (chain_kind_named m f) (static_states (versions_named m f))) × ((content (static_states (versions_named m f))).0 ≡ row)
+KnowsStaticsNamed m f row = IsTrue (has_flag (chain_kind_named m f) (static_states (versions_named m f))) × ((content (static_states (versions_named m f))).0 ≡ row)
 
 -- the partition tombstone of versions is that of writes, and what is known in them is what these say, the static row too
 pub record AreKnownOf (kind : ChainKind) (versions : List Version) (writes : List Mutation) : Type 0 where
   pub head : greatest tomb_cmp (version_tombs versions) ≡ source_at_head writes
   pub there : (x : Pos) (v : There) → IsKnownAs kind versions x v → SayThere writes x v
-  pub static_row : IsTrue (flagged kind (static_states versions)) → source_at_static writes ≡ (content (static_states versions)).0
+  pub static_row : IsTrue (has_flag kind (static_states versions)) → source_at_static writes ≡ (content (static_states versions)).0
 
 -- the snapshot stands for writes: its partition tombstone, and what it knows, is what they say
 abbrev pub StandsNamed : Memory → NoFiller → List Mutation → Type 0

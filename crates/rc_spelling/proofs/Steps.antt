@@ -2,7 +2,7 @@
 use Rattle.std.proofs.Common.{◌≡◌, ℕ, ◌<◌, Bool, true, false, cond, ◌==◌, List, [], ◌∷◌, ◌++◌, length, Option, Some, None, refl, ap, sym, ◌∙◌, subst, append_assoc, arith}
 use Rattle.std.specs.Option.{option_map, option_and_then, is_some}
 use Rattle.std.proofs.lemmas.Bool.Decides.{nat_tests}
-use Rattle.rc_spelling.specs.Spelling.{stands_alone, escaped, lone_byte, escape, bytes_spelled}
+use Rattle.rc_spelling.specs.Spelling.{stands_alone, escaped_byte, lone_byte, escape, bytes_spelled}
 use Rattle.rc_spelling.specs.calls.Fronts.{first_alone, first_escaped, first_spelled}
 use Rattle.rc_spelling.specs.laws.{alone_ahead, escape_ahead, not_alone}
 
@@ -37,7 +37,7 @@ alone_step byte after found h =
 
 escape_step : (high low : ℕ) (after : List ℕ) (found : ℕ × List ℕ) → first_escaped high low after ≡ Some found → IsStep (37 ∷ high ∷ low ∷ after) found
 escape_step high low after found h =
-    let e = pair_is (escaped high low) after found h in
+    let e = pair_is (escaped_byte high low) after found h in
     record {
       spells = escape_ahead high low found.0 after e.0 ∙ ap (λ left. option_map (λ more. found.0 ∷ more) (bytes_spelled left)) e.1;
       shorter = subst (λ (left : List ℕ). length left < length (37 ∷ high ∷ low ∷ after)) e.1 (omega arith);
@@ -60,7 +60,7 @@ step (byte ∷ next ∷ other ∷ rest) found h = long_step byte next other rest
 long_stop : (byte next other : ℕ) (rest : List ℕ) (b : Bool) → byte == 37 ≡ b
     → cond b (first_escaped next other rest) (first_alone byte (next ∷ other ∷ rest)) ≡ None → bytes_spelled (byte ∷ next ∷ other ∷ rest) ≡ None
 long_stop byte next other rest true e h =
-    ap (λ b. cond b (escape next other (bytes_spelled rest)) (lone_byte byte (bytes_spelled (next ∷ other ∷ rest)))) e ∙ (ap (λ (o : Option ℕ). option_and_then (λ first. option_map (λ bytes. first ∷ bytes) (bytes_spelled rest)) o) (pair_none (escaped next other) rest h))
+    ap (λ b. cond b (escape next other (bytes_spelled rest)) (lone_byte byte (bytes_spelled (next ∷ other ∷ rest)))) e ∙ (ap (λ (o : Option ℕ). option_and_then (λ first. option_map (λ bytes. first ∷ bytes) (bytes_spelled rest)) o) (pair_none (escaped_byte next other) rest h))
 long_stop byte next other rest false e h =
     ap (λ b. cond b (escape next other (bytes_spelled rest)) (lone_byte byte (bytes_spelled (next ∷ other ∷ rest)))) e ∙ (not_alone byte (bytes_spelled (next ∷ other ∷ rest)) (choice_none (stands_alone byte) (byte, next ∷ other ∷ rest) h))
 

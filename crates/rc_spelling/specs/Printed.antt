@@ -21,14 +21,14 @@ abbrev pub spelled_byte : ℕ → List ℕ
 spelled_byte byte = if stands_for_itself byte then byte ∷ [] else 37 ∷ hexadecimal (byte / 16) ∷ hexadecimal (byte % 16) ∷ []
 
 -- bytes as they are printed
-abbrev pub printed : List ℕ → List ℕ
-printed bytes = flat_map spelled_byte bytes
+abbrev pub printed_bytes : List ℕ → List ℕ
+printed_bytes bytes = flat_map spelled_byte bytes
 
 -- a component: a decimal number, or a text, of which `''` stands for the empty one
 abbrev pub component_text : Comp → List ℕ
 component_text (Int number) = signed_decimal number
 component_text (Text []) = codes "''"
-component_text (Text (byte ∷ bytes)) = printed (byte ∷ bytes)
+component_text (Text (byte ∷ bytes)) = printed_bytes (byte ∷ bytes)
 
 -- the components of a key, with commas between them
 abbrev pub key_text : List Comp → List ℕ

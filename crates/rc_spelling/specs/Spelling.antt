@@ -10,8 +10,8 @@ abbrev pub stands_alone : ℕ → Bool
 stands_alone byte = nat_lt 32 byte && not (byte == 127 || ((byte == 37 || (byte == 44 || byte == 39)) || ((byte == 40 || byte == 41) || (byte == 91 || byte == 93))))
 
 -- the byte that `%` and two hexadecimal digits, in either case, stand for
-abbrev pub escaped : ℕ → ℕ → Option ℕ
-escaped high low = if is_ascii_hexdigit high && is_ascii_hexdigit low then Some (digit_value high * 16 + digit_value low) else None
+abbrev pub escaped_byte : ℕ → ℕ → Option ℕ
+escaped_byte high low = if is_ascii_hexdigit high && is_ascii_hexdigit low then Some (digit_value high * 16 + digit_value low) else None
 
 -- a byte that stands for itself, before what else is spelled
 abbrev pub lone_byte : ℕ → Option (List ℕ) → Option (List ℕ)
@@ -19,7 +19,7 @@ lone_byte byte more = if stands_alone byte then option_map (λ bytes. byte ∷ b
 
 -- a byte that two digits stand for, before what else is spelled
 abbrev pub escape : ℕ → ℕ → Option (List ℕ) → Option (List ℕ)
-escape high low more = option_and_then (λ byte. option_map (λ bytes. byte ∷ bytes) more) (escaped high low)
+escape high low more = option_and_then (λ byte. option_map (λ bytes. byte ∷ bytes) more) (escaped_byte high low)
 
 -- the bytes that a word spells: nothing, or a byte that stands for itself and a spelling, or `%`, two digits and a spelling
 abbrev pub bytes_spelled : List ℕ → Option (List ℕ)

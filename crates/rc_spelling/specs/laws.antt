@@ -20,8 +20,8 @@ use Rattle.std.specs.List.{list_all, All, AllByRecursion, slice_split}
 use Rattle.rc_position.specs.declared.comps.Comp.{Comp}
 use Rattle.rc_position.specs.declared.comps.Comp.TheVariants.{Int, Text}
 use Rattle.rc_spelling.specs.Numbers.{signed_of}
-use Rattle.rc_spelling.specs.Printed.{AreBytes, IsComponent, stands_for_itself, hexadecimal, printed, component_text, key_text, bytes_of_component, spelled_byte}
-use Rattle.rc_spelling.specs.Spelling.{stands_alone, escaped, lone_byte, escape, bytes_spelled, component_spelled, components_spelled}
+use Rattle.rc_spelling.specs.Printed.{AreBytes, IsComponent, stands_for_itself, hexadecimal, printed_bytes, component_text, key_text, bytes_of_component, spelled_byte}
+use Rattle.rc_spelling.specs.Spelling.{stands_alone, escaped_byte, lone_byte, escape, bytes_spelled, component_spelled, components_spelled}
 use Rattle.rc_spelling.specs.Words.{is_word, each_of}
 
 both : (b c : Bool) → b && c ≡ true → (b ≡ true) × (c ≡ true)
@@ -32,7 +32,7 @@ plain_byte : (byte : ℕ) → is_ascii_alphanumeric byte ≡ true → spelled_by
 plain_byte byte plain = rw plain refl
 
 -- letters and digits are printed as themselves
-pub plain_values_stay : (value : List ℕ) → list_all is_ascii_alphanumeric value ≡ true → printed value ≡ value
+pub plain_values_stay : (value : List ℕ) → list_all is_ascii_alphanumeric value ≡ true → printed_bytes value ≡ value
 plain_values_stay [] plain = refl
 plain_values_stay (byte ∷ value) plain =
     let parts = both (is_ascii_alphanumeric byte) (list_all is_ascii_alphanumeric value) plain in
@@ -57,7 +57,7 @@ alone_ahead byte (next ∷ other ∷ rest) h =
     ∙ is_alone byte (bytes_spelled (next ∷ other ∷ rest)) h
 
 -- `%` and two digits, before a word
-pub escape_ahead : (high low byte : ℕ) (text : List ℕ) → escaped high low ≡ Some byte → bytes_spelled (37 ∷ high ∷ low ∷ text) ≡ option_map (λ bytes. byte ∷ bytes) (bytes_spelled text)
+pub escape_ahead : (high low byte : ℕ) (text : List ℕ) → escaped_byte high low ≡ Some byte → bytes_spelled (37 ∷ high ∷ low ∷ text) ≡ option_map (λ bytes. byte ∷ bytes) (bytes_spelled text)
 escape_ahead high low byte text h = ap (λ (o : Option ℕ). option_and_then (λ first. option_map (λ bytes. first ∷ bytes) (bytes_spelled text)) o) h
 
 -- a printed byte
@@ -68,7 +68,7 @@ digit_back n small = (grind (arith, nat_tests), grind (arith, nat_tests))
 if_both : (b c : Bool) (x y : ℕ) → b ≡ true → c ≡ true → x ≡ y → cond (b && c) (Some x) None ≡ Some y
 if_both b c x y p q r = rw (p, q, r) refl
 
-digits_back : (byte : ℕ) → byte < 256 → escaped (hexadecimal (byte / 16)) (hexadecimal (byte % 16)) ≡ Some byte
+digits_back : (byte : ℕ) → byte < 256 → escaped_byte (hexadecimal (byte / 16)) (hexadecimal (byte % 16)) ≡ Some byte
 digits_back byte small =
     let high = digit_back (byte / 16) (omega arith) in
     let low = digit_back (byte % 16) (omega arith) in
@@ -85,9 +85,9 @@ byte_back byte text small =
     ] refl
 
 -- printed bytes spell the bytes
-pub printed_bytes_read_back : (bytes : List ℕ) → AreBytes bytes → bytes_spelled (printed bytes) ≡ Some bytes
+pub printed_bytes_read_back : (bytes : List ℕ) → AreBytes bytes → bytes_spelled (printed_bytes bytes) ≡ Some bytes
 printed_bytes_read_back [] small = refl
-printed_bytes_read_back (byte ∷ bytes) small = byte_back byte (printed bytes) small.0 ∙ ap (option_map (λ more. byte ∷ more)) (printed_bytes_read_back bytes small.1)
+printed_bytes_read_back (byte ∷ bytes) small = byte_back byte (printed_bytes bytes) small.0 ∙ ap (option_map (λ more. byte ∷ more)) (printed_bytes_read_back bytes small.1)
 
 -- a printed number is read as the number
 pub printed_numbers_read_back : (number : ℤ) → FitsSigned w64 number → signed_of (signed_decimal number) ≡ Some number
@@ -124,7 +124,7 @@ int_back (negsuc n) fits =
 
 text_back : (bytes : List ℕ) → AreBytes bytes → component_spelled (component_text (Text bytes)) ≡ Some bytes
 text_back [] small = refl
-text_back (byte ∷ bytes) small = is_component (printed (byte ∷ bytes)) (byte ∷ bytes) (printed_bytes_read_back (byte ∷ bytes) small) (omega arith)
+text_back (byte ∷ bytes) small = is_component (printed_bytes (byte ∷ bytes)) (byte ∷ bytes) (printed_bytes_read_back (byte ∷ bytes) small) (omega arith)
 
 component_back : (component : Comp) → IsComponent component → component_spelled (component_text component) ≡ Some (bytes_of_component component)
 component_back (Int number) fits = int_back number fits
@@ -161,9 +161,9 @@ byte_lacks byte =
       | false ↦ λ e. All-from_recursion (λ x. is_comma x ≡ false) (37 ∷ hexadecimal (byte / 16) ∷ hexadecimal (byte % 16) ∷ []) (refl, (glyph_lacks (byte / 16), (glyph_lacks (byte % 16), tt)))
     ] refl
 
-spelled_lacks : (bytes : List ℕ) → Lacks (printed bytes)
+spelled_lacks : (bytes : List ℕ) → Lacks (printed_bytes bytes)
 spelled_lacks [] = All-nil (λ byte. is_comma byte ≡ false)
-spelled_lacks (byte ∷ bytes) = All-append (λ x. is_comma x ≡ false) (spelled_byte byte) (printed bytes) (byte_lacks byte) (spelled_lacks bytes)
+spelled_lacks (byte ∷ bytes) = All-append (λ x. is_comma x ≡ false) (spelled_byte byte) (printed_bytes bytes) (byte_lacks byte) (spelled_lacks bytes)
 
 text_lacks : (bytes : List ℕ) → Lacks (component_text (Text bytes))
 text_lacks [] = All-from_recursion (λ x. is_comma x ≡ false) (39 ∷ 39 ∷ []) (refl, (refl, tt))

@@ -9,12 +9,12 @@ ghost use Rattle.std.specs.List.{list_all, AllByRecursion};
 ghost use Rattle.rc_position.specs.declared.comps.Comp.{Comp};
 ghost use Rattle.rc_spelling.specs.Numbers.{signed_of};
 ghost use Rattle.rc_spelling.specs.Spelling.{bytes_spelled, components_spelled};
-ghost use Rattle.rc_spelling.specs.Printed.{AreBytes, IsComponent, printed, key_text, bytes_of_component};
+ghost use Rattle.rc_spelling.specs.Printed.{AreBytes, IsComponent, printed_bytes, key_text, bytes_of_component};
 
 /// Printed bytes spell the bytes.
 #[tactic(auto, using(crate::specs::laws::printed_bytes_read_back))]
 pub fn printed_bytes_read_back()
-    ensures { (bytes : List ℕ) → AreBytes bytes → bytes_spelled (printed bytes) ≡ Some bytes }
+    ensures { (bytes : List ℕ) → AreBytes bytes → bytes_spelled (printed_bytes bytes) ≡ Some bytes }
 {}
 
 /// A printed number is read as the number.
@@ -32,5 +32,5 @@ pub fn printed_keys_read_back()
 /// A value of letters and digits is printed as it was written.
 #[tactic(auto, using(crate::specs::laws::plain_values_stay))]
 pub fn plain_values_print_as_written()
-    ensures { (value : List ℕ) → IsTrue (list_all is_ascii_alphanumeric value) → printed value ≡ value }
+    ensures { (value : List ℕ) → IsTrue (list_all is_ascii_alphanumeric value) → printed_bytes value ≡ value }
 {}

@@ -1,7 +1,7 @@
 //! How bytes and the components of a key are printed.
 
 ghost use Rattle.std.specs.Prelude.{◌≡◌, ◌<◌, ◌∷◌, ◌++◌, flat_map, OnOk};
-ghost use Rattle.rc_spelling.specs.Printed.{stands_for_itself, hexadecimal, printed, component_text, key_text, spelled_byte};
+ghost use Rattle.rc_spelling.specs.Printed.{stands_for_itself, hexadecimal, printed_bytes, component_text, key_text, spelled_byte};
 ghost use Rattle.rc_spelling.specs.calls.Joining.{other_component};
 ghost use Rattle.rc_position.specs.declared.comps.Comp.TheVariants.{Text};
 
@@ -37,7 +37,7 @@ fn print_byte(byte: u8, text: &mut Vec<u8>) -> Result<(), AllocError>
 
 /// Appends bytes as they are printed. The only error is want of memory, and then a part of them may be appended.
 pub fn print_bytes(bytes: &[u8], text: &mut Vec<u8>) -> Result<(), AllocError>
-    ensures { OnOk result (text.new.items ≡ text.old.items ++ printed bytes.now) }
+    ensures { OnOk result (text.new.items ≡ text.old.items ++ printed_bytes bytes.now) }
 {
     for byte in bytes {
         print_byte(*byte, text)?;

@@ -3,7 +3,7 @@
 ghost use Rattle.std.specs.Prelude.{◌≡◌, IfOk, IsTrue, codes, map, take};
 ghost use Rattle.std.specs.Char.{digit_value, is_ascii_hexdigit};
 ghost use Rattle.std.specs.Option.{is_some, option_map};
-ghost use Rattle.rc_spelling.specs.Spelling.{stands_alone, escaped, bytes_spelled, component_spelled, components_spelled};
+ghost use Rattle.rc_spelling.specs.Spelling.{stands_alone, escaped_byte, bytes_spelled, component_spelled, components_spelled};
 ghost use Rattle.rc_spelling.specs.Words.{is_word, each_of};
 ghost use Rattle.rc_spelling.specs.calls.Fronts.{first_alone, first_escaped, first_spelled};
 
@@ -35,7 +35,7 @@ fn digit(byte: u8) -> u8
 
 /// The byte that two hexadecimal digits stand for.
 fn escaped(high: u8, low: u8) -> Option<u8>
-    ensures { result ≡ escaped high low }
+    ensures { result ≡ escaped_byte high low }
 {
     if high.is_ascii_hexdigit() && low.is_ascii_hexdigit() {
         Some(digit(high) * 16 + digit(low))

@@ -7,7 +7,7 @@ use Rattle.rc_stream.specs.declared.holding.Held.{Held}
 use Rattle.rc_stream.specs.declared.streams.StreamErr.{StreamErr}
 use Rattle.rc_stream.specs.Both.{AfterDue, AheadOfDue}
 use Rattle.rc_stream.specs.Places.{Reaches}
-use Rattle.rc_stream.specs.Stream.{Stream, sought}
+use Rattle.rc_stream.specs.Stream.{Stream, sought_stream}
 use Rattle.rc_stream.specs.Merging.{joined_head}
 use Rattle.rc_stream.specs.Moving.{IsPutBack}
 use Rattle.rc_stream.specs.Showing.{MergesTwo}
@@ -38,22 +38,22 @@ pub after-on : (P Q : Seen) (due due' : Option Pos) → due' ≡ due → ((t : S
 after-on P Q due due' e on s b = subst (λ d. AfterDue d Q s) (sym e) (on-after P Q due on s b)
 
 -- the seek that was due was done
-pub settled-seen : (P Q : Seen) (due due' : Option Pos) (x : Pos) → due ≡ Some x → due' ≡ None → ((m : Stream) → P m → Q (sought x m)) → (s : Stream) → AfterDue due P s → AfterDue due' Q s
+pub settled-seen : (P Q : Seen) (due due' : Option Pos) (x : Pos) → due ≡ Some x → due' ≡ None → ((m : Stream) → P m → Q (sought_stream x m)) → (s : Stream) → AfterDue due P s → AfterDue due' Q s
 settled-seen P Q due due' x e e' on s b =
     let c : AfterDue (Some x) P s = subst (λ d. AfterDue d P s) e b in
     after-none Q due' s e' (subst Q (sym c.2) (on c.0 c.1))
 
 -- it is still due
-pub refused-seen : (P Q : Seen) (due due' : Option Pos) (x : Pos) → due ≡ Some x → due' ≡ Some x → ((m : Stream) → P m → (n : Stream) × Q n × (sought x n ≡ sought x m)) → (s : Stream) → AfterDue due P s → AfterDue due' Q s
+pub refused-seen : (P Q : Seen) (due due' : Option Pos) (x : Pos) → due ≡ Some x → due' ≡ Some x → ((m : Stream) → P m → (n : Stream) × Q n × (sought_stream x n ≡ sought_stream x m)) → (s : Stream) → AfterDue due P s → AfterDue due' Q s
 refused-seen P Q due due' x e e' again s b =
     let c : AfterDue (Some x) P s = subst (λ d. AfterDue d P s) e b in
     let a = again c.0 c.1 in
     subst (λ d. AfterDue d Q s) (sym e') (a.0, a.1, c.2 ∙ sym a.2)
 
 -- a later seek is due in place of an earlier one
-pub sought-later : (P : Seen) (A : Ahead) (due : Option Pos) (x : Pos) (s : Stream) → AheadOfDue due A x → AfterDue due P s → AfterDue (Some x) P (sought x s)
+pub sought-later : (P : Seen) (A : Ahead) (due : Option Pos) (x : Pos) (s : Stream) → AheadOfDue due A x → AfterDue due P s → AfterDue (Some x) P (sought_stream x s)
 sought-later P A None x s r b = (s, b, refl)
-sought-later P A (Some y) x s r b = (b.0, b.1, ap (sought x) b.2 ∙ sought-sought y x b.0 r)
+sought-later P A (Some y) x s r b = (b.0, b.1, ap (sought_stream x) b.2 ∙ sought-sought y x b.0 r)
 
 -- ---- what is ahead
 

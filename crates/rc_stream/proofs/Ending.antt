@@ -19,8 +19,8 @@ use Rattle.rc_stream.specs.declared.holding.Held.{Held}
 use Rattle.rc_stream.specs.Did.{ReachesEnd}
 use Rattle.rc_stream.specs.Places.{Reaches, bound_of}
 use Rattle.rc_stream.specs.Stream.{Stream, first_upto}
-use Rattle.rc_stream.specs.Merging.{IsOrdered, StandsBefore, both_say, changes_nothing, merged, merged_left, place_of, telling}
-use Rattle.rc_stream.specs.Holding.{held}
+use Rattle.rc_stream.specs.Merging.{IsOrdered, StandsBefore, both_say, changes_nothing, merged_left, merged_stream, place_of, telling}
+use Rattle.rc_stream.specs.Holding.{held_fragments}
 use Rattle.rc_stream.specs.Moving.{IsPutBack}
 use Rattle.rc_stream.specs.Showing.{MergesTwo}
 use Rattle.rc_stream.proofs.Going.{reaches-through}
@@ -124,8 +124,8 @@ from-ours p x (h ∷ hs) fs o none r =
 from-first : (f : Frag) (fs : List Frag) → IsOrdered (f ∷ fs) → From (place_of f).0 (f ∷ fs)
 from-first f fs o = (passes-itself (place_of f).0, from-before (place_of f) fs o.1)
 
-merged-first : (p x : Pos) (s t : Stream) → Reaches p x → From p s.left → From p t.left → Reaches p (bound_of x (merged s t).left)
-unfolding merged
+merged-first : (p x : Pos) (s t : Stream) → Reaches p x → From p s.left → From p t.left → Reaches p (bound_of x (merged_stream s t).left)
+unfolding merged_stream
 merged-first p x s t r h k = bound-first p x (merged_left s.tomb s.left t.tomb t.left) r (from-merged p s.tomb t.tomb s.left t.left h k)
 
 bound-upto : (x : Pos) (fs : List Frag) → Reaches (bound_of x fs) x
@@ -150,24 +150,24 @@ bound-from x (f ∷ fs) o = from-later (bound_of x (f ∷ fs)) (place_of f).0 (f
 
 -- of theirs nothing is held: where both are asked up to x, the end of what both say is not before that of theirs, asked up to the first of ours
 module _ (P P' Q : Seen) (x : Pos) (h h' k : Held) where
-  ends : (m : Stream) (b : MergesTwo (IsPutBack P h) (IsPutBack Q k) m) → IsPutBack P' h' b.ours → (held h' ≡ [] → first_upto x b.ours.left ≡ None) → held k ≡ [] → Reaches (bound_of (bound_of x (held h')) b.second.stream.left) (bound_of x m.left)
+  ends : (m : Stream) (b : MergesTwo (IsPutBack P h) (IsPutBack Q k) m) → IsPutBack P' h' b.ours → (held_fragments h' ≡ [] → first_upto x b.ours.left ≡ None) → held_fragments k ≡ [] → Reaches (bound_of (bound_of x (held_fragments h')) b.second.stream.left) (bound_of x m.left)
   ends m b a none empty =
       let s = b.second.stream in
-      let near = bound_of x (held h') in
+      let near = bound_of x (held_fragments h') in
       let p = bound_of near s.left in
-      let ours : b.ours.left ≡ held h' ++ a.stream.left = ap (λ (u : Stream). u.left) a.same in
+      let ours : b.ours.left ≡ held_fragments h' ++ a.stream.left = ap (λ (u : Stream). u.left) a.same in
       let theirs : b.theirs.left ≡ s.left = ap (λ (u : Stream). u.left) b.second.same ∙ ap (λ hs. hs ++ s.left) empty in
-      let front = from-ours p x (held h') a.stream.left (subst IsOrdered ours (ordered P' h' b.ours a)) (λ n. sym (ap (first_upto x) ours) ∙ none n) (bound-upto near s.left) in
+      let front = from-ours p x (held_fragments h') a.stream.left (subst IsOrdered ours (ordered P' h' b.ours a)) (λ n. sym (ap (first_upto x) ours) ∙ none n) (bound-upto near s.left) in
       let behind : From p b.theirs.left = subst (From p) (sym theirs) (bound-from near s.left (subst IsOrdered theirs (ordered Q k b.theirs b.second))) in
       subst (λ (u : Stream). Reaches p (bound_of x u.left)) (sym b.joins) (merged-first p x b.ours b.theirs front.0 (subst (From p) (sym ours) front.1) behind)
 
   -- so a position that is not before the end of both is not before that of theirs
-  pub covers-theirs : (Q' : Seen) (near y : Pos) → near ≡ bound_of x (held h') → ((t : Stream) → IsPutBack P h t → IsPutBack P' h' t) → ((t : Stream) → IsPutBack P h t → held h' ≡ [] → first_upto x t.left ≡ None) → ((t : Stream) → Q t → Q' t) → ReachesEnd (MergesTwo (IsPutBack P h) (IsPutBack Q k)) x y → held k ≡ [] → ReachesEnd Q' near y
-  covers-theirs Q' near y e one none other (inl r) empty = inl (subst (λ z. Reaches z y) (sym e) (reaches-through (bound_of x (held h')) x y r (bound-upto x (held h'))))
+  pub covers-theirs : (Q' : Seen) (near y : Pos) → near ≡ bound_of x (held_fragments h') → ((t : Stream) → IsPutBack P h t → IsPutBack P' h' t) → ((t : Stream) → IsPutBack P h t → held_fragments h' ≡ [] → first_upto x t.left ≡ None) → ((t : Stream) → Q t → Q' t) → ReachesEnd (MergesTwo (IsPutBack P h) (IsPutBack Q k)) x y → held_fragments k ≡ [] → ReachesEnd Q' near y
+  covers-theirs Q' near y e one none other (inl r) empty = inl (subst (λ z. Reaches z y) (sym e) (reaches-through (bound_of x (held_fragments h')) x y r (bound-upto x (held_fragments h'))))
   covers-theirs Q' near y e one none other (inr c) empty =
       let b = c.1 in
       let s = b.second.stream in
-      inr (s, other s b.second.stands, subst (λ z. Reaches (bound_of z s.left) y) (sym e) (reaches-through (bound_of (bound_of x (held h')) s.left) (bound_of x c.0.left) y c.2 (ends c.0 b (one b.ours b.first) (none b.ours b.first) empty)))
+      inr (s, other s b.second.stands, subst (λ z. Reaches (bound_of z s.left) y) (sym e) (reaches-through (bound_of (bound_of x (held_fragments h')) s.left) (bound_of x c.0.left) y c.2 (ends c.0 b (one b.ours b.first) (none b.ours b.first) empty)))
 
 -- what is not before the end of what was stood for, is not before the end of what is stood for
 pub covers-on : (P Q : Seen) (x y : Pos) → ((m : Stream) → P m → Q m) → ReachesEnd P x y → ReachesEnd Q x y

@@ -31,12 +31,12 @@ use Rattle.rc_stream.specs.declared.holding.Turn.TheVariants as turn
 use Rattle.rc_stream.specs.Merging.{IsInner, IsOrdered, StandsBefore, changes_nothing, place_of, together}
 use Rattle.rc_stream.specs.calls.Merging.{beside}
 use Rattle.rc_stream.specs.laws.Ordered.{Place, place_same}
-use Rattle.rc_stream.specs.Holding.{IsFrom, StandsOver, held, later, looked, nearer}
-use Rattle.rc_stream.specs.calls.Holding.{is_near, row_of, turn_of, TakesFirst, alone, behind_first, dropped, look_taken, paired, told}
+use Rattle.rc_stream.specs.Holding.{IsFrom, StandsOver, held_fragments, later, look_fragments, nearer}
+use Rattle.rc_stream.specs.calls.Holding.{is_near, row_of, turn_of, TakesFirst, alone, behind_first, look_past, look_taken, pair_step, fragment_step}
 use Rattle.rc_cell.specs.Winner.{first_of}
 
 abbrev front_held : Front → Look → List Frag
-front_held fr l = front_change fr ++ looked l
+front_held fr l = front_change fr ++ look_fragments l
 
 abbrev or_self : Frag → Option Frag → Frag
 or_self f None = f
@@ -45,9 +45,9 @@ or_self f (Some g) = g
 pub same-some : (f g : Frag) → ◌≡◌ {A = Option Frag} (Some f) (Some g) → f ≡ g
 same-some f g e = ap (or_self f) e
 
-pub alone-is : (tomb other : Option Tomb) (f : Frag) (fs : List Frag) → Some f ≡ first_of fs → told (greater tomb_cmp tomb other) (beside other f) ≡ alone tomb other fs
+pub alone-is : (tomb other : Option Tomb) (f : Frag) (fs : List Frag) → Some f ≡ first_of fs → fragment_step (greater tomb_cmp tomb other) (beside other f) ≡ alone tomb other fs
 alone-is tomb other f [] e = absurd (cc)
-alone-is tomb other f (g ∷ gs) e = ap (λ h. told (greater tomb_cmp tomb other) (beside other h)) (same-some f g e)
+alone-is tomb other f (g ∷ gs) e = ap (λ h. fragment_step (greater tomb_cmp tomb other) (beside other h)) (same-some f g e)
 
 -- whether a fragment is a change
 abbrev pub is_change : Frag → Bool
@@ -122,7 +122,7 @@ given-from (front.Passed t) (look.Over z) f e x u h = h
 given-from (front.Passed t) (look.Next g) f e x u h = subst (λ k. Reaches (place_of k).0 x) (same-some f g e) u
 given-from (front.Passed t) (look.Past z g) f e x u h = (h, subst (λ k. Reaches (place_of k).0 x) (same-some f g e) u)
 
-passed-from : (fr : Front) (l : Look) (f : Frag) → Some f ≡ first_of (front_held fr l) → is_row f ≡ false → (x : Pos) → Kept l (dropped f (look_taken fr l)) x
+passed-from : (fr : Front) (l : Look) (f : Frag) → Some f ≡ first_of (front_held fr l) → is_row f ≡ false → (x : Pos) → Kept l (look_past f (look_taken fr l)) x
 passed-from fr l (frag.Start pt) e c x h = given-from fr l (frag.Start pt) e x (least x) h
 passed-from fr l (frag.Static row) e c x h = given-from fr l (frag.Static row) e x (least x) h
 passed-from fr l (frag.Row key row) e c x h = absurd (cc)
@@ -145,7 +145,7 @@ taken-over (front.Passed t) (look.Over z) fs h = h
 taken-over (front.Passed t) (look.Next g) fs h = tt
 taken-over (front.Passed t) (look.Past z g) fs h = h.1
 
-passed-over : (fr : Front) (l : Look) (f : Frag) (fs : List Frag) → Some f ≡ first_of (front_held fr l) → is_change f ≡ true → IsOrdered (front_held fr l ++ fs) → StandsOver l fs → StandsOver (dropped f (look_taken fr l)) fs
+passed-over : (fr : Front) (l : Look) (f : Frag) (fs : List Frag) → Some f ≡ first_of (front_held fr l) → is_change f ≡ true → IsOrdered (front_held fr l ++ fs) → StandsOver l fs → StandsOver (look_past f (look_taken fr l)) fs
 passed-over fr l (frag.Start pt) fs e c o h = absurd (cc)
 passed-over fr l (frag.Static row) fs e c o h = absurd (cc)
 passed-over fr l (frag.Row key row) fs e c o h = absurd (cc)
@@ -159,7 +159,7 @@ passed-over (front.Passed u) (look.Next g) (frag.Change from next) fs e c o h = 
 passed-over (front.Passed u) (look.Past z g) (frag.Change from next) fs e c o h = later-over from z fs (subst (λ k. StandsBefore (place_of k) fs) (sym (same-some (frag.Change from next) g e)) o.1) h.1
 passed-over fr l frag.End fs e c o h = absurd (cc)
 
-pub took-none : (h now : Held) → None ≡ first_of (held h) → held now ≡ rest (held h) → front_tomb now.front ≡ behind_first (front_tomb h.front) (held h) → now.look ≡ look_taken h.front h.look → TakesFirst step.Nothing h now
+pub took-none : (h now : Held) → None ≡ first_of (held_fragments h) → held_fragments now ≡ rest (held_fragments h) → front_tomb now.front ≡ behind_first (front_tomb h.front) (held_fragments h) → now.look ≡ look_taken h.front h.look → TakesFirst step.Nothing h now
 took-none h now e left tomb l = record {
   left = left;
   tomb = tomb;
@@ -167,7 +167,7 @@ took-none h now e left tomb l = record {
   over = λ fs _ k. subst (λ m. StandsOver m fs) (sym l) (taken-over h.front h.look fs k);
 }
 
-looked-dropped : (f : Frag) (l : Look) → looked (dropped f l) ≡ looked l
+looked-dropped : (f : Frag) (l : Look) → look_fragments (look_past f l) ≡ look_fragments l
 looked-dropped (frag.Start pt) l = refl
 looked-dropped (frag.Static row) l = refl
 looked-dropped (frag.Row key row) l = refl
@@ -186,25 +186,25 @@ first-more f [] gs e = absurd (cc)
 first-more f (g ∷ fs) gs e = e
 
 -- a fragment f was taken; what is told of it stands where f stands
-pub took-one : (h mid now : Held) (f a : Frag) (t : Option Tomb) → Some f ≡ first_of (held h) → held mid ≡ rest (held h) → front_tomb mid.front ≡ behind_first (front_tomb h.front) (held h) → mid.look ≡ look_taken h.front h.look → now.front ≡ mid.front → now.look ≡ cond (changes_nothing t a) (dropped f mid.look) mid.look → (changes_nothing t a ≡ true → is_row f ≡ false) → place_of a ≡ place_of f → TakesFirst (told t a) h now
+pub took-one : (h mid now : Held) (f a : Frag) (t : Option Tomb) → Some f ≡ first_of (held_fragments h) → held_fragments mid ≡ rest (held_fragments h) → front_tomb mid.front ≡ behind_first (front_tomb h.front) (held_fragments h) → mid.look ≡ look_taken h.front h.look → now.front ≡ mid.front → now.look ≡ cond (changes_nothing t a) (look_past f mid.look) mid.look → (changes_nothing t a ≡ true → is_row f ≡ false) → place_of a ≡ place_of f → TakesFirst (fragment_step t a) h now
 took-one h mid now f a t e left tomb l fr nl nothing place =
-    let front : front_tomb now.front ≡ behind_first (front_tomb h.front) (held h) = ap front_tomb fr ∙ tomb in
-    elim (changes_nothing t a) as (λ b. changes_nothing t a ≡ b → now.look ≡ cond b (dropped f mid.look) mid.look → TakesFirst (cond b step.Passed (step.Given a)) h now) [
+    let front : front_tomb now.front ≡ behind_first (front_tomb h.front) (held_fragments h) = ap front_tomb fr ∙ tomb in
+    elim (changes_nothing t a) as (λ b. changes_nothing t a ≡ b → now.look ≡ cond b (look_past f mid.look) mid.look → TakesFirst (cond b step.Passed (step.Given a)) h now) [
       | true ↦ λ c n. record {
-        left = ap (λ g. front_change g ++ looked now.look) fr ∙ ap (λ m. front_change mid.front ++ m) (ap looked n ∙ looked-dropped f mid.look) ∙ left;
+        left = ap (λ g. front_change g ++ look_fragments now.look) fr ∙ ap (λ m. front_change mid.front ++ m) (ap look_fragments n ∙ looked-dropped f mid.look) ∙ left;
         tomb = front;
-        from = λ x _ k. passed-from h.front h.look f e (nothing c) x (subst (λ m. IsFrom m x) (n ∙ ap (dropped f) l) k);
-        over = λ fs o k. subst (λ m. StandsOver m fs) (sym (n ∙ ap (dropped f) l)) (passed-over h.front h.look f fs e (inner-change f (nothing c) (first-inner f (held h ++ fs) (first-more f (held h) fs e) o)) o k);
+        from = λ x _ k. passed-from h.front h.look f e (nothing c) x (subst (λ m. IsFrom m x) (n ∙ ap (look_past f) l) k);
+        over = λ fs o k. subst (λ m. StandsOver m fs) (sym (n ∙ ap (look_past f) l)) (passed-over h.front h.look f fs e (inner-change f (nothing c) (first-inner f (held_fragments h ++ fs) (first-more f (held_fragments h) fs e) o)) o k);
       }
       | false ↦ λ c n. record {
-        left = ap (λ g. front_change g ++ looked now.look) fr ∙ ap (λ m. front_change mid.front ++ looked m) n ∙ left;
+        left = ap (λ g. front_change g ++ look_fragments now.look) fr ∙ ap (λ m. front_change mid.front ++ look_fragments m) n ∙ left;
         tomb = front;
         from = λ x u k. given-from h.front h.look f e x (subst (λ (p : Place). Reaches p.0 x) place u) (subst (λ m. IsFrom m x) (n ∙ l) k);
         over = λ fs o k. subst (λ m. StandsOver m fs) (sym (n ∙ l)) (taken-over h.front h.look fs k);
       }
     ] refl nl
 
-pub dropped-beside : (other : Option Tomb) (f : Frag) (l : Look) → dropped (beside other f) l ≡ dropped f l
+pub dropped-beside : (other : Option Tomb) (f : Frag) (l : Look) → look_past (beside other f) l ≡ look_past f l
 dropped-beside other (frag.Start pt) l = refl
 dropped-beside other (frag.Static row) l = refl
 dropped-beside other (frag.Row key row) l = refl
@@ -245,10 +245,10 @@ no_theirs [] [] e h = let k = ap is_both e in cc
 no_theirs (f ∷ fs) [] e h = let k = ap is_both e in cc
 no_theirs fs (g ∷ gs) e h = cc
 
-pub paired-is : (t : Option Tomb) (f g : Frag) (fs gs : List Frag) → Some f ≡ first_of fs → Some g ≡ first_of gs → told t (together f g) ≡ paired t fs gs
+pub paired-is : (t : Option Tomb) (f g : Frag) (fs gs : List Frag) → Some f ≡ first_of fs → Some g ≡ first_of gs → fragment_step t (together f g) ≡ pair_step t fs gs
 paired-is t f g [] gs e h = absurd (cc)
 paired-is t f g (k ∷ fs) [] e h = absurd (cc)
-paired-is t f g (k ∷ fs) (l ∷ gs) e h = λ i. told t (together (same-some f k e i) (same-some g l h i))
+paired-is t f g (k ∷ fs) (l ∷ gs) e h = λ i. fragment_step t (together (same-some f k e i) (same-some g l h i))
 
 tied_order : (r : Ordering) → by_order r turn.Ours turn.Both turn.Theirs ≡ turn.Both → r ≡ Equal
 unfolding is_both
@@ -261,7 +261,7 @@ one-place f g [] gs n e h = absurd (cc)
 one-place f g (k ∷ fs) [] n e h = absurd (cc)
 one-place f g (k ∷ fs) (l ∷ gs) n e h = ap place_of (same-some f k e) ∙ place_same (place_of k) (place_of l) (tied_order (place_order (place_of k) (place_of l)) n) ∙ ap place_of (sym (same-some g l h))
 
-pub dropped-together : (f g : Frag) (l : Look) → dropped (together f g) l ≡ dropped f l
+pub dropped-together : (f g : Frag) (l : Look) → look_past (together f g) l ≡ look_past f l
 dropped-together (frag.Start pt) g l = refl
 dropped-together (frag.Static row) g l = refl
 dropped-together (frag.Row key row) (frag.Start pt) l = refl

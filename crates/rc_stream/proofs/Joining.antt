@@ -35,7 +35,7 @@ use Rattle.rc_mutation.specs.Fragments.{begins_at, changes_of, fragments, in_ord
 use Rattle.rc_mutation.specs.Source.{IsJoinOf, IsMutation, joined_rows, rows_in}
 use Rattle.rc_mutation.specs.laws.FragMerge.{merge, merge_into, merge-in_order, fragment_of, rows-placed, changes-placed}
 use Rattle.rc_stream.specs.Stream.{Stream, force, stream_of}
-use Rattle.rc_stream.specs.Merging.{IsInner, IsOrdered, IsTelling, StandsBefore, joined_head, merged, place_of, rows_here, same_tomb}
+use Rattle.rc_stream.specs.Merging.{IsInner, IsOrdered, IsTelling, StandsBefore, joined_head, merged_stream, place_of, rows_here, same_tomb}
 use Rattle.rc_stream.specs.laws.Ordered.{Place, place_total, place_same}
 use Rattle.rc_stream.proofs.Merged.{one_row}
 use Rattle.rc_stream.proofs.MergeLaws.{determined-stream, head-merged, ordered-merged, rows-merged, telling-merged, tomb-merged, tombs-merged}
@@ -350,17 +350,17 @@ greater_of_two s t = ap (greatest tomb_cmp) (cons_list s (cons_option t []) ∙ 
 abbrev whole : Mutation → Stream
 whole m = stream m.pt m.statics (lines m)
 
-whole-merged : (m n j : Mutation) → IsMutation m → IsMutation n → IsMutation j → IsJoinOf j (m ∷ n ∷ []) → merged (whole m) (whole n) ≡ whole j
+whole-merged : (m n j : Mutation) → IsMutation m → IsMutation n → IsMutation j → IsJoinOf j (m ∷ n ∷ []) → merged_stream (whole m) (whole n) ≡ whole j
 whole-merged m n j g h k join =
     let o = ordered-lines m g in
     let p = ordered-lines n h in
     let pt : greater tomb_cmp m.pt n.pt ≡ j.pt = sym (greater_of_two m.pt n.pt) ∙ sym join.head in
     let statics : joined_row (m.statics ∷ n.statics ∷ []) ≡ j.statics = sym join.statics in
     let head : joined_head (whole m).head (whole n).head ≡ (whole j).head = λ i. record { pt = pt i; statics = statics i } in
-    let tomb : (merged (whole m) (whole n)).tomb ≡ None = tomb-merged (whole m) (whole n) in
-    determined-stream (merged (whole m) (whole n)) (whole j) (ordered-merged (whole m) (whole n) o p) (ordered-lines j k) (telling-merged (whole m) (whole n) o p) (telling-lines j k) (head-merged (whole m) (whole n) ∙ head) tomb
+    let tomb : (merged_stream (whole m) (whole n)).tomb ≡ None = tomb-merged (whole m) (whole n) in
+    determined-stream (merged_stream (whole m) (whole n)) (whole j) (ordered-merged (whole m) (whole n) o p) (ordered-lines j k) (telling-merged (whole m) (whole n) o p) (telling-lines j k) (head-merged (whole m) (whole n) ∙ head) tomb
     (λ x.
-    let rows : rows_here x (merged (whole m) (whole n)).left ≡ rows_here x (lines j) =
+    let rows : rows_here x (merged_stream (whole m) (whole n)).left ≡ rows_here x (lines j) =
     rows-merged (whole m) (whole n) x o p
     ∙ (λ i. one_row (rows-lines m g x i ++ rows-lines n h x i))
     ∙ ap one_row (sym (rows_in-append x m.rows n.rows))
@@ -368,7 +368,7 @@ whole-merged m n j g h k join =
     ∙ sym (in-joined x.prefix x.weight (m.rows ++ (n.rows ++ [])))
     ∙ ap (rows_in x) (sym join.rows)
     ∙ sym (rows-lines j k x) in
-    let tombs : force x (merged (whole m) (whole n)).tomb (merged (whole m) (whole n)).left ≡ force x None (lines j) =
+    let tombs : force x (merged_stream (whole m) (whole n)).tomb (merged_stream (whole m) (whole n)).left ≡ force x None (lines j) =
     tombs-merged (whole m) (whole n) x o p
     ∙ (λ i. greater tomb_cmp (force-lines m g x i) (force-lines n h x i))
     ∙ sym (cover-append m.ranges n.ranges x)
@@ -378,8 +378,8 @@ whole-merged m n j g h k join =
     λ i. (rows i, tombs i))
 
 -- two mutations read as streams and merged are the stream of what both join to
-pub merged-join : (m n j : Mutation) → IsMutation m → IsMutation n → IsMutation j → IsJoinOf j (m ∷ n ∷ []) → merged (stream_of (fragments m)) (stream_of (fragments n)) ≡ stream_of (fragments j)
+pub merged-join : (m n j : Mutation) → IsMutation m → IsMutation n → IsMutation j → IsJoinOf j (m ∷ n ∷ []) → merged_stream (stream_of (fragments m)) (stream_of (fragments n)) ≡ stream_of (fragments j)
 merged-join m n j g h k join =
-    (λ i. merged (stream-of_fragments m g i) (stream-of_fragments n h i))
+    (λ i. merged_stream (stream-of_fragments m g i) (stream-of_fragments n h i))
     ∙ whole-merged m n j g h k join
     ∙ sym (stream-of_fragments j k)

@@ -8,33 +8,33 @@ use Rattle.rc_cell.specs.Orders.{tomb_cmp}
 use Rattle.rc_position.specs.declared.positions.Pos.{Pos}
 use Rattle.rc_mutation.specs.laws.ByKey.{joined_if_any}
 use Rattle.rc_stream.specs.Stream.{Stream, force, says}
-use Rattle.rc_stream.specs.Merging.{IsOrdered, IsTelling, joined_head, merged, rows_here}
+use Rattle.rc_stream.specs.Merging.{IsOrdered, IsTelling, joined_head, merged_stream, rows_here}
 use Rattle.rc_stream.proofs.Merged.{merged-says}
 use Rattle.rc_stream.proofs.Determined.{determined}
 use Rattle.std.proofs.Common.{refl, ap, sym, subst, ◌∙◌}
 
-pub head-merged : (s t : Stream) → (merged s t).head ≡ joined_head s.head t.head
-unfolding merged
+pub head-merged : (s t : Stream) → (merged_stream s t).head ≡ joined_head s.head t.head
+unfolding merged_stream
 head-merged s t = refl
 
-pub tomb-merged : (s t : Stream) → (merged s t).tomb ≡ greater tomb_cmp s.tomb t.tomb
-unfolding merged
+pub tomb-merged : (s t : Stream) → (merged_stream s t).tomb ≡ greater tomb_cmp s.tomb t.tomb
+unfolding merged_stream
 tomb-merged s t = refl
 
-pub rows-merged : (s t : Stream) (x : Pos) → IsOrdered s.left → IsOrdered t.left → rows_here x (merged s t).left ≡ option_to_list (joined_if_any (rows_here x s.left ++ rows_here x t.left))
-unfolding merged
+pub rows-merged : (s t : Stream) (x : Pos) → IsOrdered s.left → IsOrdered t.left → rows_here x (merged_stream s t).left ≡ option_to_list (joined_if_any (rows_here x s.left ++ rows_here x t.left))
+unfolding merged_stream
 rows-merged s t x o k = (merged-says s.tomb t.tomb s.left t.left o k).rows x
 
-pub tombs-merged : (s t : Stream) (x : Pos) → IsOrdered s.left → IsOrdered t.left → force x (merged s t).tomb (merged s t).left ≡ greater tomb_cmp (force x s.tomb s.left) (force x t.tomb t.left)
-unfolding merged
+pub tombs-merged : (s t : Stream) (x : Pos) → IsOrdered s.left → IsOrdered t.left → force x (merged_stream s t).tomb (merged_stream s t).left ≡ greater tomb_cmp (force x s.tomb s.left) (force x t.tomb t.left)
+unfolding merged_stream
 tombs-merged s t x o k = (merged-says s.tomb t.tomb s.left t.left o k).tombs x
 
-pub ordered-merged : (s t : Stream) → IsOrdered s.left → IsOrdered t.left → IsOrdered (merged s t).left
-unfolding merged
+pub ordered-merged : (s t : Stream) → IsOrdered s.left → IsOrdered t.left → IsOrdered (merged_stream s t).left
+unfolding merged_stream
 ordered-merged s t o k = (merged-says s.tomb t.tomb s.left t.left o k).ordered
 
-pub telling-merged : (s t : Stream) → IsOrdered s.left → IsOrdered t.left → IsTelling (merged s t).tomb (merged s t).left
-unfolding merged
+pub telling-merged : (s t : Stream) → IsOrdered s.left → IsOrdered t.left → IsTelling (merged_stream s t).tomb (merged_stream s t).left
+unfolding merged_stream
 telling-merged s t o k = (merged-says s.tomb t.tomb s.left t.left o k).telling
 
 -- canonical streams that say the same are the same

@@ -9,10 +9,10 @@ use Rattle.rc_cell.specs.declared.writes.Tomb.{Tomb}
 use Rattle.rc_stream.specs.declared.lists.Front.{Front}
 use Rattle.rc_stream.specs.declared.lists.Front.TheVariants.{Passed}
 use Rattle.rc_stream.specs.Fronts.{front_tomb, front_change}
-use Rattle.rc_stream.specs.Stream.{Stream, clustered, first_upto, rest}
+use Rattle.rc_stream.specs.Stream.{Stream, clustered_front, first_upto, rest}
 use Rattle.rc_mutation.specs.Fragments.{tomb_after}
 
-one_on : (x : Pos) (f : Frag) (fs : List Frag) (n : ℕ) → first_upto x (clustered (drop n fs)) ≡ Some f → clustered (drop (suc n) fs) ≡ rest (clustered (drop n fs))
+one_on : (x : Pos) (f : Frag) (fs : List Frag) (n : ℕ) → first_upto x (clustered_front (drop n fs)) ≡ Some f → clustered_front (drop (suc n) fs) ≡ rest (clustered_front (drop n fs))
 one_on x f [] zero h = absurd (cc)
 one_on x f [] (suc n) h = absurd (cc)
 one_on x f (frag.Start pt ∷ fs) zero h = absurd (cc)
@@ -26,8 +26,8 @@ abbrev pub stream : Head → Option Tomb → List Frag → Stream
 stream h t l = record { head = h; tomb = t; left = l }
 
 -- a stream of a list, from which the first was taken
-pub taken : (head : Head) (x : Pos) (f : Frag) (fs : List Frag) (n : ℕ) (tomb : Option Tomb) (front : Front) (now : Stream) → front ≡ Passed tomb → now ≡ stream head (front_tomb front) (front_change front ++ clustered (drop n fs)) → first_upto x (clustered (drop n fs)) ≡ Some f → stream head (tomb_after tomb f) (clustered (drop (n + 1) fs)) ≡ stream now.head (tomb_after now.tomb f) (rest now.left)
+pub taken : (head : Head) (x : Pos) (f : Frag) (fs : List Frag) (n : ℕ) (tomb : Option Tomb) (front : Front) (now : Stream) → front ≡ Passed tomb → now ≡ stream head (front_tomb front) (front_change front ++ clustered_front (drop n fs)) → first_upto x (clustered_front (drop n fs)) ≡ Some f → stream head (tomb_after tomb f) (clustered_front (drop (n + 1) fs)) ≡ stream now.head (tomb_after now.tomb f) (rest now.left)
 taken head x f fs n tomb front now is view h =
-    ap (λ l. stream head (tomb_after tomb f) l) (ap (λ k. clustered (drop k fs)) (sym (suc-eq-add-one n)) ∙ one_on x f fs n h)
-    ∙ ap (λ g. stream head (tomb_after (front_tomb g) f) (rest (front_change g ++ clustered (drop n fs)))) (sym is)
+    ap (λ l. stream head (tomb_after tomb f) l) (ap (λ k. clustered_front (drop k fs)) (sym (suc-eq-add-one n)) ∙ one_on x f fs n h)
+    ∙ ap (λ g. stream head (tomb_after (front_tomb g) f) (rest (front_change g ++ clustered_front (drop n fs)))) (sym is)
     ∙ ap (λ s. stream s.head (tomb_after s.tomb f) (rest s.left)) (sym view)

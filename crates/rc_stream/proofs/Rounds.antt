@@ -24,11 +24,11 @@ use Rattle.rc_stream.specs.declared.holding.Turn.{Turn}
 use Rattle.rc_stream.specs.declared.holding.Turn.TheVariants as turn
 use Rattle.rc_stream.specs.Fronts.{front_tomb}
 use Rattle.rc_stream.specs.Stream.{Stream, first_upto, is_upto, rest}
-use Rattle.rc_stream.specs.Merging.{IsInner, IsOrdered, StandsBefore, changes_nothing, joined_head, merged, merged_left, place_of, together}
+use Rattle.rc_stream.specs.Merging.{IsInner, IsOrdered, StandsBefore, changes_nothing, joined_head, merged_left, merged_stream, place_of, together}
 use Rattle.rc_stream.specs.calls.Merging.{beside}
 use Rattle.rc_stream.specs.Places.{bound_of}
-use Rattle.rc_stream.specs.Holding.{HeldFits, nearer, tomb_behind, held, whole}
-use Rattle.rc_stream.specs.calls.Holding.{TakesTurn, IsStepUpto, TakesFirst, alone, begins_upto, behind_first, is_near, paired, told, turn_of}
+use Rattle.rc_stream.specs.Holding.{HeldFits, nearer, tomb_behind, held_fragments, whole}
+use Rattle.rc_stream.specs.calls.Holding.{TakesTurn, IsStepUpto, TakesFirst, alone, begins_upto, behind_first, is_near, pair_step, fragment_step, turn_of}
 use Rattle.rc_stream.specs.calls.Moving.{StepSays}
 use Rattle.rc_stream.proofs.Held.{upto-beside, upto-together}
 use Rattle.rc_stream.proofs.Merged.{merged-says}
@@ -183,7 +183,7 @@ facts x (f ∷ hs) ls (g ∷ ks) ms o p a b =
 abbrev stream : Head → Option Tomb → List Frag → Stream
 stream h t l = record { head = h; tomb = t; left = l }
 
-told-says : (h : Head) (t u : Option Tomb) (a : Frag) (x : Pos) (l m : List Frag) → l ≡ tell t a m → tomb_after t a ≡ u → is_upto x a ≡ true → StepSays (told t a) x (stream h t l) (stream h u m)
+told-says : (h : Head) (t u : Option Tomb) (a : Frag) (x : Pos) (l m : List Frag) → l ≡ tell t a m → tomb_after t a ≡ u → is_upto x a ≡ true → StepSays (fragment_step t a) x (stream h t l) (stream h u m)
 told-says h t u a x l m e now up =
     elim (changes_nothing t a) as (λ b. changes_nothing t a ≡ b → l ≡ cond b m (a ∷ m) → StepSays (cond b step.Passed (step.Given a)) x (stream h t l) (stream h u m)) [
       | true ↦ λ c k. let same : u ≡ t = sym now ∙ nothing-after t a c in λ i. stream h (same i) (sym k i)
@@ -199,22 +199,22 @@ theirs-beside t (frag.Row key row) = refl
 theirs-beside t (frag.Change from next) = ap (frag.Change from) (greater-comm t next)
 theirs-beside t frag.End = refl
 
-took-left : (s : Step) (h now : Held) (f : Frag) (ls : List Frag) → held h ≡ f ∷ rest (held h) → TakesFirst s h now → held h ++ ls ≡ f ∷ (held now ++ ls)
+took-left : (s : Step) (h now : Held) (f : Frag) (ls : List Frag) → held_fragments h ≡ f ∷ rest (held_fragments h) → TakesFirst s h now → held_fragments h ++ ls ≡ f ∷ (held_fragments now ++ ls)
 took-left s h now f ls e t = ap (λ hs. hs ++ ls) e ∙ ap (λ hs. f ∷ (hs ++ ls)) (sym t.left)
 
-took-tomb : (s : Step) (h now : Held) (f : Frag) → held h ≡ f ∷ rest (held h) → TakesFirst s h now → front_tomb now.front ≡ tomb_after (front_tomb h.front) f
+took-tomb : (s : Step) (h now : Held) (f : Frag) → held_fragments h ≡ f ∷ rest (held_fragments h) → TakesFirst s h now → front_tomb now.front ≡ tomb_after (front_tomb h.front) f
 took-tomb s h now f e t = t.tomb ∙ ap (behind_first (front_tomb h.front)) e
 
-took-fits : (s : Step) (h now : Held) (st : Stream) (f : Frag) → held h ≡ f ∷ rest (held h) → TakesFirst s h now → HeldFits h st → HeldFits now st
+took-fits : (s : Step) (h now : Held) (st : Stream) (f : Frag) → held_fragments h ≡ f ∷ rest (held_fragments h) → TakesFirst s h now → HeldFits h st → HeldFits now st
 took-fits s h now st f e t fits = record {
-  ordered = (let o : IsOrdered (f ∷ (held now ++ st.left)) = subst IsOrdered (took-left s h now f st.left e t) fits.ordered in o.2);
+  ordered = (let o : IsOrdered (f ∷ (held_fragments now ++ st.left)) = subst IsOrdered (took-left s h now f st.left e t) fits.ordered in o.2);
   tomb = fits.tomb ∙ ap (tomb_behind (front_tomb h.front)) e ∙ sym (λ i. tomb_behind (took-tomb s h now f e t i) (t.left i));
   over = t.over st.left fits.ordered fits.over;
 }
 
 -- a step of what is held of both is a step of both merged
 pub record Stepped (s : Step) (x : Pos) (sa sb : Stream) (ours theirs ours' theirs' : Held) : Type 0 where
-  pub says : StepSays s x (merged (whole ours sa) (whole theirs sb)) (merged (whole ours' sa) (whole theirs' sb))
+  pub says : StepSays s x (merged_stream (whole ours sa) (whole theirs sb)) (merged_stream (whole ours' sa) (whole theirs' sb))
   pub fits_ours : HeldFits ours' sa
   pub fits_theirs : HeldFits theirs' sb
 
@@ -225,62 +225,62 @@ module _ (x : Pos) (sa sb : Stream) (ours theirs : Held) (fa : HeldFits ours sa)
   abbrev tb : Option Tomb
   tb = front_tomb theirs.front
 
-  nobody-says : first_upto x (held ours ++ sa.left) ≡ None → first_upto x (held theirs ++ sb.left) ≡ None → StepSays step.Nothing x (merged (whole ours sa) (whole theirs sb)) (merged (whole ours sa) (whole theirs sb))
-  unfolding merged
+  nobody-says : first_upto x (held_fragments ours ++ sa.left) ≡ None → first_upto x (held_fragments theirs ++ sb.left) ≡ None → StepSays step.Nothing x (merged_stream (whole ours sa) (whole theirs sb)) (merged_stream (whole ours sa) (whole theirs sb))
+  unfolding merged_stream
   nobody-says a b =
-      let s = merged-says ta tb (held ours ++ sa.left) (held theirs ++ sb.left) fa.ordered fb.ordered in
-      (refl, none-past x (merged_left ta (held ours ++ sa.left) tb (held theirs ++ sb.left)) s.ordered (s.before (x, 1) (all-past x (held ours ++ sa.left) fa.ordered a) (all-past x (held theirs ++ sb.left) fb.ordered b)))
+      let s = merged-says ta tb (held_fragments ours ++ sa.left) (held_fragments theirs ++ sb.left) fa.ordered fb.ordered in
+      (refl, none-past x (merged_left ta (held_fragments ours ++ sa.left) tb (held_fragments theirs ++ sb.left)) s.ordered (s.before (x, 1) (all-past x (held_fragments ours ++ sa.left) fa.ordered a) (all-past x (held_fragments theirs ++ sb.left) fb.ordered b)))
 
-  ours-says : (s : Step) (ours' : Held) (f : Frag) → held ours ≡ f ∷ rest (held ours) → is_upto x f ≡ true → StandsBefore (place_of f) (held theirs ++ sb.left) → TakesFirst s ours ours' → StepSays (told (greater tomb_cmp ta tb) (beside tb f)) x (merged (whole ours sa) (whole theirs sb)) (merged (whole ours' sa) (whole theirs sb))
-  unfolding merged
+  ours-says : (s : Step) (ours' : Held) (f : Frag) → held_fragments ours ≡ f ∷ rest (held_fragments ours) → is_upto x f ≡ true → StandsBefore (place_of f) (held_fragments theirs ++ sb.left) → TakesFirst s ours ours' → StepSays (fragment_step (greater tomb_cmp ta tb) (beside tb f)) x (merged_stream (whole ours sa) (whole theirs sb)) (merged_stream (whole ours' sa) (whole theirs sb))
+  unfolding merged_stream
   ours-says s ours' f e up b t =
       let now = greater tomb_cmp ta tb in
-      let gs = held theirs ++ sb.left in
-      let fs = held ours' ++ sa.left in
+      let gs = held_fragments theirs ++ sb.left in
+      let fs = held_fragments ours' ++ sa.left in
       let left = took-left s ours ours' f sa.left e t in
       let tomb = took-tomb s ours ours' f e t in
       let o : IsOrdered (f ∷ fs) = subst IsOrdered left fa.ordered in
-      told-says (joined_head sa.head sb.head) now (greater tomb_cmp (front_tomb ours'.front) tb) (beside tb f) x (merged_left ta (held ours ++ sa.left) tb gs) (merged_left (front_tomb ours'.front) fs tb gs)
+      told-says (joined_head sa.head sb.head) now (greater tomb_cmp (front_tomb ours'.front) tb) (beside tb f) x (merged_left ta (held_fragments ours ++ sa.left) tb gs) (merged_left (front_tomb ours'.front) fs tb gs)
       (ap (λ hs. merged_left ta hs tb gs) left ∙ step-ours ta tb f fs gs o fb.ordered b ∙ ap (λ u. tell now (beside tb f) (merged_left u fs tb gs)) (sym tomb))
       (after-beside ta tb f ∙ ap (λ u. greater tomb_cmp u tb) (sym tomb))
       (upto-beside tb f x ∙ up)
 
-  theirs-says : (s : Step) (theirs' : Held) (g : Frag) → held theirs ≡ g ∷ rest (held theirs) → is_upto x g ≡ true → StandsBefore (place_of g) (held ours ++ sa.left) → TakesFirst s theirs theirs' → StepSays (told (greater tomb_cmp tb ta) (beside ta g)) x (merged (whole ours sa) (whole theirs sb)) (merged (whole ours sa) (whole theirs' sb))
-  unfolding merged
+  theirs-says : (s : Step) (theirs' : Held) (g : Frag) → held_fragments theirs ≡ g ∷ rest (held_fragments theirs) → is_upto x g ≡ true → StandsBefore (place_of g) (held_fragments ours ++ sa.left) → TakesFirst s theirs theirs' → StepSays (fragment_step (greater tomb_cmp tb ta) (beside ta g)) x (merged_stream (whole ours sa) (whole theirs sb)) (merged_stream (whole ours sa) (whole theirs' sb))
+  unfolding merged_stream
   theirs-says s theirs' g e up b t =
       let now = greater tomb_cmp ta tb in
-      let fs = held ours ++ sa.left in
-      let gs = held theirs' ++ sb.left in
+      let fs = held_fragments ours ++ sa.left in
+      let gs = held_fragments theirs' ++ sb.left in
       let left = took-left s theirs theirs' g sb.left e t in
       let tomb = took-tomb s theirs theirs' g e t in
       let k : IsOrdered (g ∷ gs) = subst IsOrdered left fb.ordered in
-      let old = merged_left ta fs tb (held theirs ++ sb.left) in
+      let old = merged_left ta fs tb (held_fragments theirs ++ sb.left) in
       let later = merged_left ta fs (front_tomb theirs'.front) gs in
       let h = joined_head sa.head sb.head in
-      subst (λ u. StepSays (told u (beside ta g)) x (stream h now old) (stream h (greater tomb_cmp ta (front_tomb theirs'.front)) later)) (greater-comm ta tb)
+      subst (λ u. StepSays (fragment_step u (beside ta g)) x (stream h now old) (stream h (greater tomb_cmp ta (front_tomb theirs'.front)) later)) (greater-comm ta tb)
       (told-says h now (greater tomb_cmp ta (front_tomb theirs'.front)) (beside ta g) x old later
       (ap (λ ks. merged_left ta fs tb ks) left ∙ step-theirs ta tb g fs gs fa.ordered k b ∙ ap (λ a. tell now a (merged_left ta fs (tomb_after tb g) gs)) (theirs-beside ta g) ∙ ap (λ u. tell now (beside ta g) (merged_left ta fs u gs)) (sym tomb))
       (ap (tomb_after now) (sym (theirs-beside ta g)) ∙ after-theirs ta tb g ∙ ap (greater tomb_cmp ta) (sym tomb))
       (upto-beside ta g x ∙ up))
 
-  both-says : (s : Step) (ours' theirs' : Held) (f g : Frag) → held ours ≡ f ∷ rest (held ours) → held theirs ≡ g ∷ rest (held theirs) → is_upto x f ≡ true → place_order (place_of f) (place_of g) ≡ Equal → TakesFirst s ours ours' → TakesFirst s theirs theirs' → StepSays (told (greater tomb_cmp ta tb) (together f g)) x (merged (whole ours sa) (whole theirs sb)) (merged (whole ours' sa) (whole theirs' sb))
-  unfolding merged
+  both-says : (s : Step) (ours' theirs' : Held) (f g : Frag) → held_fragments ours ≡ f ∷ rest (held_fragments ours) → held_fragments theirs ≡ g ∷ rest (held_fragments theirs) → is_upto x f ≡ true → place_order (place_of f) (place_of g) ≡ Equal → TakesFirst s ours ours' → TakesFirst s theirs theirs' → StepSays (fragment_step (greater tomb_cmp ta tb) (together f g)) x (merged_stream (whole ours sa) (whole theirs sb)) (merged_stream (whole ours' sa) (whole theirs' sb))
+  unfolding merged_stream
   both-says s ours' theirs' f g e d up p t u =
       let now = greater tomb_cmp ta tb in
-      let fs = held ours' ++ sa.left in
-      let gs = held theirs' ++ sb.left in
+      let fs = held_fragments ours' ++ sa.left in
+      let gs = held_fragments theirs' ++ sb.left in
       let left = took-left s ours ours' f sa.left e t in
       let right = took-left s theirs theirs' g sb.left d u in
       let tomb = took-tomb s ours ours' f e t in
       let other = took-tomb s theirs theirs' g d u in
       let o : IsOrdered (f ∷ fs) = subst IsOrdered left fa.ordered in
       let k : IsOrdered (g ∷ gs) = subst IsOrdered right fb.ordered in
-      told-says (joined_head sa.head sb.head) now (greater tomb_cmp (front_tomb ours'.front) (front_tomb theirs'.front)) (together f g) x (merged_left ta (held ours ++ sa.left) tb (held theirs ++ sb.left)) (merged_left (front_tomb ours'.front) fs (front_tomb theirs'.front) gs)
+      told-says (joined_head sa.head sb.head) now (greater tomb_cmp (front_tomb ours'.front) (front_tomb theirs'.front)) (together f g) x (merged_left ta (held_fragments ours ++ sa.left) tb (held_fragments theirs ++ sb.left)) (merged_left (front_tomb ours'.front) fs (front_tomb theirs'.front) gs)
       ((λ i. merged_left ta (left i) tb (right i)) ∙ step-together ta tb f g fs gs o k p ∙ (λ i. tell now (together f g) (merged_left (sym tomb i) fs (sym other i) gs)))
       (after-together ta tb f g o.0 k.0 (place_same (place_of f) (place_of g) p) ∙ (λ i. greater tomb_cmp (sym tomb i) (sym other i)))
       (upto-together f g x ∙ up)
 
-  by_turn : (r : Turn) (s : Step) (ours' theirs' : Held) → TurnFacts r x (held ours) sa.left (held theirs) sb.left → TakesTurn r s ours theirs ours' theirs' → Stepped s x sa sb ours theirs ours' theirs'
+  by_turn : (r : Turn) (s : Step) (ours' theirs' : Held) → TurnFacts r x (held_fragments ours) sa.left (held_fragments theirs) sb.left → TakesTurn r s ours theirs ours' theirs' → Stepped s x sa sb ours theirs ours' theirs'
   by_turn turn.Nobody s ours' theirs' facts d =
       subst (λ r. Stepped r x sa sb ours theirs ours' theirs') (sym d.0)
       (subst (λ h. Stepped step.Nothing x sa sb ours theirs h theirs') (sym d.1)
@@ -288,60 +288,60 @@ module _ (x : Pos) (sa sb : Stream) (ours theirs : Held) (fa : HeldFits ours sa)
   by_turn turn.Ours s ours' theirs' facts d =
       let f = facts.0 in
       let e = facts.1 in
-      let same : s ≡ told (greater tomb_cmp ta tb) (beside tb f) = d.0 ∙ ap (alone ta tb) e in
+      let same : s ≡ fragment_step (greater tomb_cmp ta tb) (beside tb f) = d.0 ∙ ap (alone ta tb) e in
       subst (λ k. Stepped s x sa sb ours theirs ours' k) (sym d.2)
       (record {
-        says = subst (λ r. StepSays r x (merged (whole ours sa) (whole theirs sb)) (merged (whole ours' sa) (whole theirs sb))) (sym same) (ours-says s ours' f e facts.2 facts.3 d.1);
+        says = subst (λ r. StepSays r x (merged_stream (whole ours sa) (whole theirs sb)) (merged_stream (whole ours' sa) (whole theirs sb))) (sym same) (ours-says s ours' f e facts.2 facts.3 d.1);
         fits_ours = took-fits s ours ours' sa f e d.1 fa;
         fits_theirs = fb;
       })
   by_turn turn.Theirs s ours' theirs' facts d =
       let g = facts.0 in
       let e = facts.1 in
-      let same : s ≡ told (greater tomb_cmp tb ta) (beside ta g) = d.0 ∙ ap (alone tb ta) e in
+      let same : s ≡ fragment_step (greater tomb_cmp tb ta) (beside ta g) = d.0 ∙ ap (alone tb ta) e in
       subst (λ h. Stepped s x sa sb ours theirs h theirs') (sym d.1)
       (record {
-        says = subst (λ r. StepSays r x (merged (whole ours sa) (whole theirs sb)) (merged (whole ours sa) (whole theirs' sb))) (sym same) (theirs-says s theirs' g e facts.2 facts.3 d.2);
+        says = subst (λ r. StepSays r x (merged_stream (whole ours sa) (whole theirs sb)) (merged_stream (whole ours sa) (whole theirs' sb))) (sym same) (theirs-says s theirs' g e facts.2 facts.3 d.2);
         fits_ours = fa;
         fits_theirs = took-fits s theirs theirs' sb g e d.2 fb;
       })
   by_turn turn.Both s ours' theirs' facts d =
       let f = facts.0 in
       let g = facts.1 in
-      let same : s ≡ told (greater tomb_cmp ta tb) (together f g) = d.0 ∙ (λ i. paired (greater tomb_cmp ta tb) (facts.2 i) (facts.3 i)) in
+      let same : s ≡ fragment_step (greater tomb_cmp ta tb) (together f g) = d.0 ∙ (λ i. pair_step (greater tomb_cmp ta tb) (facts.2 i) (facts.3 i)) in
       record {
-        says = subst (λ r. StepSays r x (merged (whole ours sa) (whole theirs sb)) (merged (whole ours' sa) (whole theirs' sb))) (sym same) (both-says s ours' theirs' f g facts.2 facts.3 facts.4 facts.5 d.1 d.2);
+        says = subst (λ r. StepSays r x (merged_stream (whole ours sa) (whole theirs sb)) (merged_stream (whole ours' sa) (whole theirs' sb))) (sym same) (both-says s ours' theirs' f g facts.2 facts.3 facts.4 facts.5 d.1 d.2);
         fits_ours = took-fits s ours ours' sa f facts.2 d.1 fa;
         fits_theirs = took-fits s theirs theirs' sb g facts.3 d.2 fb;
       }
 
-  pub stepped : (s : Step) (ours' theirs' : Held) → (held ours ≡ [] → first_upto x sa.left ≡ None) → (held theirs ≡ [] → first_upto (bound_of x (held ours)) sb.left ≡ None) → TakesTurn (turn_of x (held ours) (held theirs)) s ours theirs ours' theirs' → Stepped s x sa sb ours theirs ours' theirs'
-  stepped s ours' theirs' a b d = by_turn (turn_of x (held ours) (held theirs)) s ours' theirs' (facts x (held ours) sa.left (held theirs) sb.left fa.ordered fb.ordered a b) d
+  pub stepped : (s : Step) (ours' theirs' : Held) → (held_fragments ours ≡ [] → first_upto x sa.left ≡ None) → (held_fragments theirs ≡ [] → first_upto (bound_of x (held_fragments ours)) sb.left ≡ None) → TakesTurn (turn_of x (held_fragments ours) (held_fragments theirs)) s ours theirs ours' theirs' → Stepped s x sa sb ours theirs ours' theirs'
+  stepped s ours' theirs' a b d = by_turn (turn_of x (held_fragments ours) (held_fragments theirs)) s ours' theirs' (facts x (held_fragments ours) sa.left (held_fragments theirs) sb.left fa.ordered fb.ordered a b) d
 
 -- ---- what a step gives stands up to the position
 
-told-upto : (x : Pos) (t : Option Tomb) (f : Frag) → is_upto x f ≡ true → IsStepUpto x (told t f)
+told-upto : (x : Pos) (t : Option Tomb) (f : Frag) → is_upto x f ≡ true → IsStepUpto x (fragment_step t f)
 told-upto x t f u = elim (changes_nothing t f) as (λ b. IsStepUpto x (cond b step.Passed (step.Given f))) [ true ↦ tt | false ↦ u ]
 
 alone-upto : (x : Pos) (t other : Option Tomb) (fs : List Frag) → begins_upto x fs ≡ true → IsStepUpto x (alone t other fs)
 alone-upto x t other [] u = tt
 alone-upto x t other (f ∷ fs) u = told-upto x (greater tomb_cmp t other) (beside other f) (upto-beside other f x ∙ u)
 
-paired-upto : (x : Pos) (t : Option Tomb) (fs gs : List Frag) → begins_upto x fs ≡ true → IsStepUpto x (paired t fs gs)
+paired-upto : (x : Pos) (t : Option Tomb) (fs gs : List Frag) → begins_upto x fs ≡ true → IsStepUpto x (pair_step t fs gs)
 paired-upto x t [] gs u = tt
 paired-upto x t (f ∷ fs) [] u = tt
 paired-upto x t (f ∷ fs) (g ∷ gs) u = told-upto x t (together f g) (upto-together f g x ∙ u)
 
-turn-upto : (x : Pos) (r : Turn) (s : Step) (o t o' t' : Held) → is_near x r (held o) (held t) ≡ true → TakesTurn r s o t o' t' → IsStepUpto x s
+turn-upto : (x : Pos) (r : Turn) (s : Step) (o t o' t' : Held) → is_near x r (held_fragments o) (held_fragments t) ≡ true → TakesTurn r s o t o' t' → IsStepUpto x s
 turn-upto x turn.Nobody s o t o' t' n d = subst (IsStepUpto x) (sym d.0) tt
-turn-upto x turn.Ours s o t o' t' n d = subst (IsStepUpto x) (sym d.0) (alone-upto x (front_tomb o.front) (front_tomb t.front) (held o) n)
-turn-upto x turn.Theirs s o t o' t' n d = subst (IsStepUpto x) (sym d.0) (alone-upto x (front_tomb t.front) (front_tomb o.front) (held t) n)
-turn-upto x turn.Both s o t o' t' n d = subst (IsStepUpto x) (sym d.0) (paired-upto x (greater tomb_cmp (front_tomb o.front) (front_tomb t.front)) (held o) (held t) n)
+turn-upto x turn.Ours s o t o' t' n d = subst (IsStepUpto x) (sym d.0) (alone-upto x (front_tomb o.front) (front_tomb t.front) (held_fragments o) n)
+turn-upto x turn.Theirs s o t o' t' n d = subst (IsStepUpto x) (sym d.0) (alone-upto x (front_tomb t.front) (front_tomb o.front) (held_fragments t) n)
+turn-upto x turn.Both s o t o' t' n d = subst (IsStepUpto x) (sym d.0) (paired-upto x (greater tomb_cmp (front_tomb o.front) (front_tomb t.front)) (held_fragments o) (held_fragments t) n)
 
-pub step-upto : (x : Pos) (s : Step) (o t o' t' : Held) → TakesTurn (turn_of x (held o) (held t)) s o t o' t' → IsStepUpto x s
+pub step-upto : (x : Pos) (s : Step) (o t o' t' : Held) → TakesTurn (turn_of x (held_fragments o) (held_fragments t)) s o t o' t' → IsStepUpto x s
 step-upto x s o t o' t' =
-    let r = nearer (held o) (held t) in
-    elim (is_near x r (held o) (held t)) as (λ b. is_near x r (held o) (held t) ≡ b → TakesTurn (cond b r turn.Nobody) s o t o' t' → IsStepUpto x s) [
+    let r = nearer (held_fragments o) (held_fragments t) in
+    elim (is_near x r (held_fragments o) (held_fragments t)) as (λ b. is_near x r (held_fragments o) (held_fragments t) ≡ b → TakesTurn (cond b r turn.Nobody) s o t o' t' → IsStepUpto x s) [
       | true ↦ λ n d. turn-upto x r s o t o' t' n d
       | false ↦ λ n d. subst (IsStepUpto x) (sym d.0) tt
     ] refl

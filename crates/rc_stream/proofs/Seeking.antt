@@ -15,8 +15,8 @@ use Rattle.rc_mutation.specs.declared.fragments.Frag.{Frag}
 use Rattle.rc_mutation.specs.declared.fragments.Frag.TheVariants as frag
 use Rattle.rc_mutation.specs.declared.fragments.Head.{Head}
 use Rattle.rc_mutation.specs.Fragments.{place_order}
-use Rattle.rc_stream.specs.Stream.{Stream, force, is_passed, onward, opening, sought}
-use Rattle.rc_stream.specs.Merging.{IsOrdered, StandsBefore, joined_head, merged, merged_left, rows_here}
+use Rattle.rc_stream.specs.Stream.{Stream, force, is_passed, onward, opening, sought_stream}
+use Rattle.rc_stream.specs.Merging.{IsOrdered, StandsBefore, joined_head, merged_left, merged_stream, rows_here}
 use Rattle.rc_stream.specs.laws.Ordered.{Place, Lt, before-through, irreflexive, no_rows, stop, turned}
 use Rattle.rc_stream.proofs.Merged.{merged-says, one_row}
 use Rattle.rc_stream.proofs.Determined.{determined}
@@ -90,8 +90,8 @@ sought-merged_left x tomb other fs gs o k =
 abbrev pub stream : Head → Option Tomb → List Frag → Stream
 stream h t l = record { head = h; tomb = t; left = l }
 
-pub sought-merged : (x : Pos) (s t : Stream) → IsOrdered s.left → IsOrdered t.left → sought x (merged s t) ≡ merged (sought x s) (sought x t)
-unfolding merged
+pub sought-merged : (x : Pos) (s t : Stream) → IsOrdered s.left → IsOrdered t.left → sought_stream x (merged_stream s t) ≡ merged_stream (sought_stream x s) (sought_stream x t)
+unfolding merged_stream
 sought-merged x s t o k = ap (stream (joined_head s.head t.head) None) (sought-merged_left x s.tomb t.tomb s.left t.left o k)
 
 -- ---- a later seek
@@ -108,7 +108,7 @@ onward-opening : (x y : Pos) → is_le (pos_cmp x y) ≡ true → (t : Option To
 onward-opening x y h None fs = refl
 onward-opening x y h (Some t) fs = ap (λ b. cond b (onward y fs) (frag.Change x (Some t) ∷ fs)) h
 
-pub sought-sought : (x y : Pos) (s : Stream) → is_le (pos_cmp x y) ≡ true → sought y (sought x s) ≡ sought y s
+pub sought-sought : (x y : Pos) (s : Stream) → is_le (pos_cmp x y) ≡ true → sought_stream y (sought_stream x s) ≡ sought_stream y s
 sought-sought x y s h =
     ap (λ t. stream s.head None (opening y t ++ onward y (sought_left x s.tomb s.left))) (force-opening x y h (force x s.tomb s.left) (onward x s.left) ∙ sym (force-onward x y h s.tomb s.left))
     ∙ ap (λ l. stream s.head None (opening y (force y s.tomb s.left) ++ l)) (onward-opening x y h (force x s.tomb s.left) (onward x s.left) ∙ onward-onward x y h s.left)

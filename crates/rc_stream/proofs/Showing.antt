@@ -7,7 +7,7 @@ use Rattle.rc_cell.specs.Orders.{tomb_cmp}
 use Rattle.rc_mutation.specs.declared.fragments.Head.{Head}
 use Rattle.rc_stream.specs.declared.holding.Held.{Held}
 use Rattle.rc_stream.specs.declared.streams.StreamErr.{StreamErr}
-use Rattle.rc_stream.specs.Merging.{IsOrdered, joined_head, merged}
+use Rattle.rc_stream.specs.Merging.{IsOrdered, joined_head, merged_stream}
 use Rattle.rc_stream.specs.Moving.{IsPutBack, nothing_held}
 use Rattle.rc_stream.specs.Showing.{MergesTwo, ShowsOne}
 use Rattle.rc_stream.specs.Stream.{Stream}
@@ -36,7 +36,7 @@ shown-both P S Q T h k e f a b head one other joins =
     let s = one.stream in
     let t = other.stream in
     record {
-      stream = merged s t;
+      stream = merged_stream s t;
       possible = record { ours = s; theirs = t; first = one.possible; second = other.possible; joins = refl };
       whole = (tomb-merged s t ∙ (λ i. greater tomb_cmp (one.whole.0 i) (other.whole.0 i)), ordered-merged s t one.whole.1 other.whole.1);
       stood = record {

@@ -20,7 +20,7 @@ use Rattle.rc_mutation.specs.declared.fragments.Frag.{Frag}
 use Rattle.rc_mutation.specs.declared.fragments.Frag.TheVariants as frag
 use Rattle.rc_mutation.specs.Fragments.{place_order, tomb_after}
 use Rattle.rc_stream.specs.Stream.{force, is_passed, row_at}
-use Rattle.rc_stream.specs.Merging.{IsInner, IsOrdered, StandsBefore, both_say, changes_nothing, merged_left, place_of, placed, rows_here, same_tomb, telling, together}
+use Rattle.rc_stream.specs.Merging.{IsInner, IsOrdered, StandsBefore, both_say, changes_nothing, merged_left, place_of, placed_fragment, rows_here, same_tomb, telling, together}
 use Rattle.rc_stream.specs.calls.Merging.{beside}
 use Rattle.rc_stream.specs.laws.Ordered.{Place, Lt, place_total, place_same, before-append, no_row-passed, no_rows, itself, irreflexive, passed-change, passed-row, passes-itself, stop}
 
@@ -30,7 +30,7 @@ Entries = List (Place × Frag)
 -- ---- the entries of fragments, by place
 
 abbrev pub ents : List Frag → Entries
-ents fs = map.entries (map.from_entries {R = place_order} (list_map placed fs))
+ents fs = map.entries (map.from_entries {R = place_order} (list_map placed_fragment fs))
 
 abbrev keys_behind : Place → Entries → Type 0
 keys_behind p [] = Unit {0}
@@ -44,7 +44,7 @@ pub ents-none : ents [] ≡ []
 ents-none = no_length (ents []) (sym (map.len-entries (map.empty {K = Place} {X = Frag} {R = place_order})) ∙ map.len-empty place_order Frag)
 
 pub ents-cons : (f : Frag) (fs : List Frag) → ents (f ∷ fs) ≡ put place_order (place_of f) f (ents fs)
-ents-cons f fs = map.entries-insert place_total (map.from_entries {R = place_order} (list_map placed fs)) (place_of f) f
+ents-cons f fs = map.entries-insert place_total (map.from_entries {R = place_order} (list_map placed_fragment fs)) (place_of f) f
 
 behind-put : (q p : Place) (v : Frag) (es : Entries) → Lt q p → keys_behind q es → keys_behind q (put place_order p v es)
 behind-put q p v [] a h = (a, tt)

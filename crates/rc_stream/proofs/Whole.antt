@@ -15,7 +15,7 @@ use Rattle.rc_mutation.specs.declared.mutations.Mutation.{Mutation}
 use Rattle.rc_mutation.specs.Fragments.{changes_of, fragments, in_order, is_written, placed_change, placed_row, static_fragment}
 use Rattle.rc_mutation.specs.Source.{IsMutation}
 use Rattle.rc_mutation.specs.laws.FragMerge.{merge, merge_into, merge-in_order, fragment_of, rows-placed, changes-placed}
-use Rattle.rc_stream.specs.Stream.{Stream, without_head, clustered, is_clustered, static_of, stream_of}
+use Rattle.rc_stream.specs.Stream.{Stream, without_head, clustered_front, is_clustered, static_of, stream_of}
 
 abbrev Keyed : Type 0
 Keyed = List Comp × Row
@@ -48,9 +48,9 @@ inner-merge : (os : List Keyed) (bs : List Change) → Inner (list_map fragment_
 inner-merge [] bs = inner-changes bs
 inner-merge (a ∷ os) bs = inner-merge_into a os (inner-merge os) bs
 
-clustered-inner : (fs : List Frag) → Inner fs → clustered (fs ++ frag.End ∷ []) ≡ fs
+clustered-inner : (fs : List Frag) → Inner fs → clustered_front (fs ++ frag.End ∷ []) ≡ fs
 clustered-inner [] h = refl
-clustered-inner (f ∷ fs) h = ap (λ b. cond b (f ∷ clustered (fs ++ frag.End ∷ [])) []) h.0 ∙ ap (λ l. f ∷ l) (clustered-inner fs h.1)
+clustered-inner (f ∷ fs) h = ap (λ b. cond b (f ∷ clustered_front (fs ++ frag.End ∷ [])) []) h.0 ∙ ap (λ l. f ∷ l) (clustered-inner fs h.1)
 
 body-inner : (fs : List Frag) → Inner fs → without_head (fs ++ frag.End ∷ []) ≡ fs ++ frag.End ∷ []
 body-inner [] h = refl
@@ -87,10 +87,10 @@ unwritten row h = unwritten_parts row.marker row.tomb row.cells h
 whole : (pt : Option Tomb) (row : Row) (fs : List Frag) → Inner fs → stream_of ((frag.Start pt ∷ static_fragment row) ++ fs ++ frag.End ∷ []) ≡ stream pt row fs
 whole pt row fs h =
     let rest = fs ++ frag.End ∷ [] in
-    let left : clustered (without_head rest) ≡ fs = ap clustered (body-inner fs h) ∙ clustered-inner fs h in
+    let left : clustered_front (without_head rest) ≡ fs = ap clustered_front (body-inner fs h) ∙ clustered-inner fs h in
     elim (is_written row) as (λ b. is_written row ≡ b → stream_of (frag.Start pt ∷ ((cond b (frag.Static row ∷ []) [] ++ fs) ++ frag.End ∷ [])) ≡ stream pt row fs) [
       | true ↦ λ e. ap (stream pt row) left
-      | false ↦ λ e. ap (λ r. stream pt r (clustered (without_head rest))) (static-inner fs h ∙ sym (unwritten row e)) ∙ ap (stream pt row) left
+      | false ↦ λ e. ap (λ r. stream pt r (clustered_front (without_head rest))) (static-inner fs h ∙ sym (unwritten row e)) ∙ ap (stream pt row) left
     ] refl
 
 pub stream-of_fragments : (m : Mutation) → IsMutation m → stream_of (fragments m) ≡ stream m.pt m.statics (in_order (list_map placed_row m.rows ++ list_map placed_change (changes_of m.ranges)))

@@ -8,7 +8,7 @@ use Rattle.rc_stream.specs.declared.merges.Merge.{Merge}
 use Rattle.rc_stream.specs.Moving.{Holds, Keeps, KeepsSeen, MaySeek, nothing_held}
 use Rattle.rc_stream.specs.Places.{Reaches}
 use Rattle.rc_stream.specs.Showing.{EitherSpot, FileSpots, MergesTwo}
-use Rattle.rc_stream.specs.Stream.{Stream, sought}
+use Rattle.rc_stream.specs.Stream.{Stream, sought_stream}
 
 -- ---- both
 
@@ -48,7 +48,7 @@ SpotsOfBoth damage damage' m file offset = EitherSpot (damage m.ours.stream) (da
 -- one of these streams, once a seek that is due, if one is, was done
 abbrev pub AfterDue : Option Pos → (Stream → Type 0) → Stream → Type 0
 AfterDue None P s = P s
-AfterDue (Some x) P s = (t : Stream) × P t × (s ≡ sought x t)
+AfterDue (Some x) P s = (t : Stream) × P t × (s ≡ sought_stream x t)
 
 -- one of these positions, or where a seek is due each that is not before it
 abbrev pub AheadOfDue : Option Pos → (Pos → Type 0) → Pos → Type 0

@@ -8,7 +8,7 @@ use Rattle.std.specs.Prelude.{◌≡◌, ◌⊎◌, ◌≤◌, ◌+◌, ◌&&◌
 use Rattle.rc_position.specs.declared.positions.Pos.{Pos}
 use Rattle.rc_stream.specs.declared.streams.StreamErr.{StreamErr}
 use Rattle.rc_stream.specs.declared.merges.Merge.{Merge}
-use Rattle.rc_stream.specs.Moving.{unpeeked}
+use Rattle.rc_stream.specs.Moving.{unpeeked_stream}
 use Rattle.rc_stream.specs.Stream.{Stream}
 use Rattle.rc_stream.specs.Places.{Reaches, bound_of}
 
@@ -19,9 +19,9 @@ pub data Call : Type 0 where
   OfNext : Pos → Call
 
 -- whether a call was answered and not refused
-abbrev pub answered : {T : Type 0} → Result T StreamErr → Bool
-answered (Ok value) = true
-answered (Err e) = false
+abbrev pub has_answer : {T : Type 0} → Result T StreamErr → Bool
+has_answer (Ok value) = true
+has_answer (Err e) = false
 
 -- a position is not before the end of a call up to x: not before x, or not before the first of a stream that is stood for
 abbrev pub ReachesEnd : (Stream → Type 0) → Pos → Pos → Type 0
@@ -113,4 +113,4 @@ both_settled settled settled' m = settled m.ours.stream && settled' m.theirs.str
 
 -- a new merge of two parts: nothing is held of them, and no seek is due
 abbrev pub IsNewMerge : {A B : Type 0} → A → B → Merge A B → Type 0
-IsNewMerge a b m = m ≡ record { ours = unpeeked a; theirs = unpeeked b; due = None }
+IsNewMerge a b m = m ≡ record { ours = unpeeked_stream a; theirs = unpeeked_stream b; due = None }

@@ -19,15 +19,15 @@ use Rattle.rc_stream.specs.Stream.{Stream}
 use Rattle.rc_stream.specs.Merging.{IsOrdered, StandsBefore, place_of}
 
 -- what was looked at and not given
-abbrev pub looked : Look → List Frag
-looked look.Open = []
-looked (look.Over z) = []
-looked (look.Next f) = f ∷ []
-looked (look.Past z f) = f ∷ []
+abbrev pub look_fragments : Look → List Frag
+look_fragments look.Open = []
+look_fragments (look.Over z) = []
+look_fragments (look.Next f) = f ∷ []
+look_fragments (look.Past z f) = f ∷ []
 
 -- what is held: the change that is due, and what was looked at
-abbrev pub held : Held → List Frag
-held h = front_change h.front ++ looked h.look
+abbrev pub held_fragments : Held → List Frag
+held_fragments h = front_change h.front ++ look_fragments h.look
 
 -- the range tombstone in force behind fragments
 abbrev pub tomb_behind : Option Tomb → List Frag → Option Tomb
@@ -36,7 +36,7 @@ tomb_behind tomb (f ∷ fs) = tomb_behind (tomb_after tomb f) fs
 
 -- a stream with what is held put back before it
 abbrev pub whole : Held → Stream → Stream
-whole h s = record { head = s.head; tomb = front_tomb h.front; left = held h ++ s.left }
+whole h s = record { head = s.head; tomb = front_tomb h.front; left = held_fragments h ++ s.left }
 
 -- x is not before the last that was taken from the stream
 abbrev pub IsFrom : Look → Pos → Type 0
@@ -54,8 +54,8 @@ StandsOver (look.Past z f) fs = StandsBefore (z, 0) (f ∷ fs)
 
 -- what is held fits the stream behind it
 pub record HeldFits (h : Held) (s : Stream) : Type 0 where
-  pub ordered : IsOrdered (held h ++ s.left)
-  pub tomb : s.tomb ≡ tomb_behind (front_tomb h.front) (held h)
+  pub ordered : IsOrdered (held_fragments h ++ s.left)
+  pub tomb : s.tomb ≡ tomb_behind (front_tomb h.front) (held_fragments h)
   pub over : StandsOver h.look s.left
 
 -- which of two places is the smaller, where there are any

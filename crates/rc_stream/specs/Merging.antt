@@ -1,7 +1,7 @@
 -- Two streams of one partition as one: by places, what both say there.
---     IsOrdered       rows and changes by strictly ascending place
---     IsTelling       no change is to the tombstone that was in force before it
---     merged          the canonical stream of what two streams say together
+--     IsOrdered           rows and changes by strictly ascending place
+--     IsTelling           no change is to the tombstone that was in force before it
+--     merged_stream       the canonical stream of what two streams say together
 use Rattle.std.specs.Prelude.{◌≡◌, ℕ, Bool, true, false, cond, List, [], ◌∷◌, ◌++◌, Option, Some, None, map as list_map}
 use Rattle.std.specs.declared.cmp.Ordering.TheVariants.{Less}
 use Rattle.std.specs.Ordering.{eq_by_cmp}
@@ -27,8 +27,8 @@ place_of (frag.Change from tomb) = (from, 0)
 place_of f = (record { prefix = []; weight = Before }, 0)
 
 -- a fragment at its place
-abbrev pub placed : Frag → (Pos × ℕ) × Frag
-placed f = (place_of f, f)
+abbrev pub placed_fragment : Frag → (Pos × ℕ) × Frag
+placed_fragment f = (place_of f, f)
 
 -- a row whose cells ascend by column, or a change
 abbrev pub IsInner : Frag → Type 0
@@ -87,15 +87,15 @@ both_say tomb fs other gs frag.End = frag.End
 
 -- at each place where one of both has a fragment, in order, what both say there; without the changes that change nothing
 abbrev pub merged_left : Option Tomb → List Frag → Option Tomb → List Frag → List Frag
-merged_left tomb fs other gs = telling (greater tomb_cmp tomb other) (list_map (both_say tomb fs other gs) (in_order (list_map placed (fs ++ gs))))
+merged_left tomb fs other gs = telling (greater tomb_cmp tomb other) (list_map (both_say tomb fs other gs) (in_order (list_map placed_fragment (fs ++ gs))))
 
 -- the heads of two streams as one: the greater partition tombstone, the static rows as one
 abbrev pub joined_head : Head → Head → Head
 joined_head h k = record { pt = greater tomb_cmp h.pt k.pt; statics = joined_row (h.statics ∷ k.statics ∷ []) }
 
 -- two streams as one
-unfoldable pub merged : Stream → Stream → Stream
-merged s t = record { head = joined_head s.head t.head; tomb = greater tomb_cmp s.tomb t.tomb; left = merged_left s.tomb s.left t.tomb t.left }
+unfoldable pub merged_stream : Stream → Stream → Stream
+merged_stream s t = record { head = joined_head s.head t.head; tomb = greater tomb_cmp s.tomb t.tomb; left = merged_left s.tomb s.left t.tomb t.left }
 
 -- two fragments at one place as one
 abbrev pub together : Frag → Frag → Frag

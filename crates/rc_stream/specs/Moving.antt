@@ -14,8 +14,8 @@ abbrev pub nothing_held : Held
 nothing_held = record { front = front.Passed None; look = look.Open }
 
 -- a stream of which nothing is held
-abbrev pub unpeeked : {A : Type 0} → A → Peeked A
-unpeeked a = record { stream = a; held = nothing_held }
+abbrev pub unpeeked_stream : {A : Type 0} → A → Peeked A
+unpeeked_stream a = record { stream = a; held = nothing_held }
 
 -- a home and a store are as they were, or as a call made them
 abbrev pub Once : {H W : Type 0} → (H → W → H → W → Type 0) → H → W → H → W → Type 0

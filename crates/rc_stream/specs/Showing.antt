@@ -6,7 +6,7 @@ use Rattle.std.specs.Prelude.{◌≡◌, ◌⊎◌, ℕ, ⊤, None, Result, IfEr
 use Rattle.rc_mutation.specs.declared.fragments.Head.{Head}
 use Rattle.rc_stream.specs.declared.streams.StreamErr.{StreamErr}
 use Rattle.rc_stream.specs.declared.streams.StreamErr.TheVariants.{Fault, Damaged, NoMemory}
-use Rattle.rc_stream.specs.Merging.{IsOrdered, merged}
+use Rattle.rc_stream.specs.Merging.{IsOrdered, merged_stream}
 use Rattle.rc_stream.specs.Stream.{Stream}
 
 -- a stream from its beginning: no tombstone is in force before its first, and its rows and changes are in order
@@ -27,7 +27,7 @@ pub record MergesTwo (P Q : Stream → Type 0) (s : Stream) : Type 0 where
   pub theirs : Stream
   pub first : P ours
   pub second : Q theirs
-  pub joins : s ≡ merged ours theirs
+  pub joins : s ≡ merged_stream ours theirs
 
 -- files and offsets in them
 abbrev pub FileSpots : Type 1

@@ -73,8 +73,8 @@ opening x None = []
 opening x (Some tomb) = frag.Change x (Some tomb) ∷ []
 
 -- a stream after a seek to x: the change at x to the tombstone in force there, where one is, then the rows from x on and the changes behind it
-abbrev pub sought : Pos → Stream → Stream
-sought x s = record { head = s.head; tomb = None; left = opening x (force x s.tomb s.left) ++ onward x s.left }
+abbrev pub sought_stream : Pos → Stream → Stream
+sought_stream x s = record { head = s.head; tomb = None; left = opening x (force x s.tomb s.left) ++ onward x s.left }
 
 -- the row of a fragment at x, if it is one
 abbrev pub row_at : Pos → Frag → List Row
@@ -107,9 +107,9 @@ static_of (frag.Change from tomb ∷ fs) = static_of fs
 static_of (frag.End ∷ fs) = static_of fs
 
 -- the rows and changes at the front of fragments
-abbrev pub clustered : List Frag → List Frag
-clustered [] = []
-clustered (f ∷ fs) = cond (is_clustered f) (f ∷ clustered fs) []
+abbrev pub clustered_front : List Frag → List Frag
+clustered_front [] = []
+clustered_front (f ∷ fs) = cond (is_clustered f) (f ∷ clustered_front fs) []
 
 -- fragments without the start and the static row before the first row, change or end
 abbrev pub without_head : List Frag → List Frag
@@ -122,4 +122,4 @@ without_head (frag.End ∷ fs) = frag.End ∷ fs
 
 -- the stream of a list of fragments, from the beginning: its start and its static row, and the rows and changes behind them
 abbrev pub stream_of : List Frag → Stream
-stream_of fs = record { head = record { pt = start_of fs; statics = static_of fs }; tomb = None; left = clustered (without_head fs) }
+stream_of fs = record { head = record { pt = start_of fs; statics = static_of fs }; tomb = None; left = clustered_front (without_head fs) }

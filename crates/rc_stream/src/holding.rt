@@ -11,8 +11,8 @@ ghost use Rattle.rc_stream.specs.Merging.{changes_nothing, place_of, same_tomb, 
 ghost use Rattle.rc_stream.specs.calls.Merging.{beside};
 ghost use Rattle.rc_stream.specs.calls.Moving.{look_after};
 ghost use Rattle.rc_stream.specs.Places.{bound_of};
-ghost use Rattle.rc_stream.specs.Holding.{held, looked, nearer, turn_between};
-ghost use Rattle.rc_stream.specs.calls.Holding.{TakesTurn, TakesFirst, WentOn, alone, begins_upto, behind_first, dropped, is_near, look_passed, look_taken, paired, passed_over, passes_held, row_of, row_of_both, told, turn_of};
+ghost use Rattle.rc_stream.specs.Holding.{held_fragments, look_fragments, nearer, turn_between};
+ghost use Rattle.rc_stream.specs.calls.Holding.{TakesTurn, TakesFirst, WentOn, alone, begins_upto, behind_first, look_past, is_near, look_passed, look_taken, pair_step, passed_over, passes_held, row_of, row_of_both, fragment_step, turn_of};
 
 use crate::lists::{Front, front_at, passes, row_pos, stands_upto, tomb_after};
 use rc_cell::{Row, Tomb};
@@ -99,7 +99,7 @@ impl Held {
 
     /// Whether nothing is held.
     pub(crate) fn is_empty(&self) -> bool
-        ensures { result ≡ is_nil (held self.now) }
+        ensures { result ≡ is_nil (held_fragments self.now) }
     {
         match (&self.front, &self.look) {
             (Front::Due(_, _), _) => false,
@@ -112,7 +112,7 @@ impl Held {
 
     /// Where the first that is held stands.
     pub(crate) fn place(&self, alloc: Global) -> Result<Option<(Pos, u8)>, AllocError>
-        ensures { IfOk result (λ p. p ≡ option_map place_of (first_of (held self.now))) }
+        ensures { IfOk result (λ p. p ≡ option_map place_of (first_of (held_fragments self.now))) }
     {
         match &self.front {
             Front::Due(from, _) => Ok(Some((from.copy(alloc)?, 0))),
@@ -122,7 +122,7 @@ impl Held {
 
     /// Whether the first that is held stands at the position or before it.
     pub(crate) fn begins_upto(&self, alloc: Global, upto: &Pos) -> Result<bool, AllocError>
-        ensures { IfOk result (λ b. b ≡ begins_upto upto.now (held self.now)) }
+        ensures { IfOk result (λ b. b ≡ begins_upto upto.now (held_fragments self.now)) }
     {
         match &self.front {
             Front::Due(from, _) => Ok(from.cmp(upto).is_le()),
@@ -152,9 +152,9 @@ impl Held {
 
     /// Takes the first that is held.
     pub(crate) fn take(&mut self) -> Option<Frag>
-        ensures gives { result ≡ first_of (held self.old) }
-        ensures left { held self.new ≡ rest (held self.old) }
-        ensures tomb { front_tomb self.new.front ≡ behind_first (front_tomb self.old.front) (held self.old) }
+        ensures gives { result ≡ first_of (held_fragments self.old) }
+        ensures left { held_fragments self.new ≡ rest (held_fragments self.old) }
+        ensures tomb { front_tomb self.new.front ≡ behind_first (front_tomb self.old.front) (held_fragments self.old) }
         ensures look { self.new.look ≡ look_taken self.old.front self.old.look }
     {
         match mem::replace(&mut self.front, Front::Passed(None)) {
@@ -193,7 +193,7 @@ impl Held {
 
     // A copy of the first row that is held, if the first that is held is one.
     fn copy_row(&self, alloc: Global) -> Result<Option<Row>, AllocError>
-        ensures { IfOk result (λ row. row ≡ row_of (held self.now)) }
+        ensures { IfOk result (λ row. row ≡ row_of (held_fragments self.now)) }
     {
         match &self.front {
             Front::Due(_, _) => Ok(None),
@@ -214,7 +214,7 @@ impl Held {
     // Keeps where a fragment stands that was passed over, if it is a change.
     fn pass_over(&mut self, frag: Frag)
         ensures front { self.new.front ≡ self.old.front }
-        ensures look { self.new.look ≡ dropped frag self.old.look }
+        ensures look { self.new.look ≡ look_past frag self.old.look }
     {
         match frag {
             Frag::Change(from, _) => self.pass(from),
@@ -228,7 +228,7 @@ impl Held {
     // Lets go of a fragment that was taken, which is passed over if it is silent.
     fn let_go(&mut self, silent: bool, frag: Frag)
         ensures front { self.new.front ≡ self.old.front }
-        ensures look { self.new.look ≡ cond silent (dropped frag self.old.look) self.old.look }
+        ensures look { self.new.look ≡ cond silent (look_past frag self.old.look) self.old.look }
     {
         if silent {
             self.pass_over(frag);
@@ -237,9 +237,9 @@ impl Held {
 
     // Gives a fragment that was taken, or passes over it where it changes nothing.
     fn tell(&mut self, before: Option<Tomb>, frag: Frag) -> Step
-        ensures step { result ≡ told before frag }
+        ensures step { result ≡ fragment_step before frag }
         ensures front { self.new.front ≡ self.old.front }
-        ensures look { self.new.look ≡ cond (changes_nothing before frag) (dropped frag self.old.look) self.old.look }
+        ensures look { self.new.look ≡ cond (changes_nothing before frag) (look_past frag self.old.look) self.old.look }
     {
         if is_silent(before, &frag) {
             self.pass_over(frag);
@@ -251,7 +251,7 @@ impl Held {
 
     // Takes the first that is held, and gives it beside the tombstone in force in the other stream, or passes over it.
     fn step_alone(&mut self, other: Option<Tomb>) -> Step
-        ensures step { result ≡ alone (front_tomb self.old.front) other (held self.old) }
+        ensures step { result ≡ alone (front_tomb self.old.front) other (held_fragments self.old) }
         ensures took { TakesFirst result self.old self.new }
     {
         let before = greater_tomb(self.tomb(), other);
@@ -277,8 +277,8 @@ impl Look {
 
     // Takes what was looked at.
     fn take(&mut self) -> Option<Frag>
-        ensures gives { result ≡ first_of (looked self.old) }
-        ensures left { looked self.new ≡ rest (looked self.old) }
+        ensures gives { result ≡ first_of (look_fragments self.old) }
+        ensures left { look_fragments self.new ≡ rest (look_fragments self.old) }
         ensures look { self.new ≡ look_taken (Front.Passed None) self.old }
     {
         let (left, taken) = mem::replace(self, Look::Open).parted();
@@ -288,8 +288,8 @@ impl Look {
 
     // What was looked at, beside what is left without it.
     fn parted(self) -> (Look, Option<Frag>)
-        ensures gives { result.1 ≡ first_of (looked self) }
-        ensures left { looked result.0 ≡ rest (looked self) }
+        ensures gives { result.1 ≡ first_of (look_fragments self) }
+        ensures left { look_fragments result.0 ≡ rest (look_fragments self) }
         ensures look { result.0 ≡ look_taken (Front.Passed None) self }
     {
         match self {
@@ -328,7 +328,7 @@ impl Look {
 
     // A copy of the row that was looked at, if one was.
     fn copy_row(&self, alloc: Global) -> Result<Option<Row>, AllocError>
-        ensures { IfOk result (λ row. row ≡ row_of (looked self.now)) }
+        ensures { IfOk result (λ row. row ≡ row_of (look_fragments self.now)) }
     {
         match self {
             Look::Open => Ok(None),
@@ -340,7 +340,7 @@ impl Look {
 
     // Where the fragment stands that was looked at.
     fn place(&self, alloc: Global) -> Result<Option<(Pos, u8)>, AllocError>
-        ensures { IfOk result (λ p. p ≡ option_map place_of (first_of (looked self.now))) }
+        ensures { IfOk result (λ p. p ≡ option_map place_of (first_of (look_fragments self.now))) }
     {
         match self {
             Look::Open => Ok(None),
@@ -352,7 +352,7 @@ impl Look {
 
     // Whether it stands at the position or before it.
     fn begins_upto(&self, alloc: Global, upto: &Pos) -> Result<bool, AllocError>
-        ensures { IfOk result (λ b. b ≡ begins_upto upto.now (looked self.now)) }
+        ensures { IfOk result (λ b. b ≡ begins_upto upto.now (look_fragments self.now)) }
     {
         match self {
             Look::Open => Ok(false),
@@ -416,7 +416,7 @@ pub(crate) fn same(ours: Option<Tomb>, theirs: Option<Tomb>) -> bool
 
 // Which of the first that are held has the smaller place.
 pub(crate) fn nearer(alloc: Global, ours: &Held, theirs: &Held) -> Result<Turn, AllocError>
-    ensures { IfOk result (λ t. t ≡ nearer (held ours.now) (held theirs.now)) }
+    ensures { IfOk result (λ t. t ≡ nearer (held_fragments ours.now) (held_fragments theirs.now)) }
 {
     let ours = ours.place(alloc)?;
     let theirs = theirs.place(alloc)?;
@@ -500,8 +500,8 @@ fn together(ours: Frag, theirs: &Frag, row: Option<Row>) -> Frag
 
 // Takes the first of both, which stand at one place, and gives them as one, or passes over them.
 fn step_both(alloc: Global, ours: &mut Held, theirs: &mut Held) -> Result<Step, AllocError>
-    requires { nearer (held ours.old) (held theirs.old) ≡ Turn.Both }
-    ensures step { IfOk result (λ s. s ≡ paired (greater tomb_cmp (front_tomb ours.old.front) (front_tomb theirs.old.front)) (held ours.old) (held theirs.old)) }
+    requires { nearer (held_fragments ours.old) (held_fragments theirs.old) ≡ Turn.Both }
+    ensures step { IfOk result (λ s. s ≡ pair_step (greater tomb_cmp (front_tomb ours.old.front) (front_tomb theirs.old.front)) (held_fragments ours.old) (held_fragments theirs.old)) }
     ensures ours { IfOk result (λ s. TakesFirst s ours.old ours.new) }
     ensures theirs { IfOk result (λ s. TakesFirst s theirs.old theirs.new) }
     ensures err { OnErr result ((ours.new ≡ ours.old) × (theirs.new ≡ theirs.old)) }
@@ -526,7 +526,7 @@ pub(crate) fn make_step(
     theirs: &mut Held,
     upto: &Pos,
 ) -> Result<Step, AllocError>
-    ensures does { IfOk result (λ s. TakesTurn (turn_of upto.now (held ours.old) (held theirs.old)) s ours.old theirs.old ours.new theirs.new) }
+    ensures does { IfOk result (λ s. TakesTurn (turn_of upto.now (held_fragments ours.old) (held_fragments theirs.old)) s ours.old theirs.old ours.new theirs.new) }
     ensures err { OnErr result ((ours.new ≡ ours.old) × (theirs.new ≡ theirs.old)) }
 {
     match next_turn(alloc, ours, theirs, upto)? {
@@ -539,7 +539,7 @@ pub(crate) fn make_step(
 
 // Whose turn it is up to a position.
 fn next_turn(alloc: Global, ours: &Held, theirs: &Held, upto: &Pos) -> Result<Turn, AllocError>
-    ensures { IfOk result (λ t. t ≡ turn_of upto.now (held ours.now) (held theirs.now)) }
+    ensures { IfOk result (λ t. t ≡ turn_of upto.now (held_fragments ours.now) (held_fragments theirs.now)) }
 {
     let turn = nearer(alloc, ours, theirs)?;
     if is_near(alloc, &turn, ours, theirs, upto)? {
@@ -550,7 +550,7 @@ fn next_turn(alloc: Global, ours: &Held, theirs: &Held, upto: &Pos) -> Result<Tu
 
 // The nearer of a position and that of the first that is held.
 pub(crate) fn bound(alloc: Global, ours: &Held, upto: &Pos) -> Result<Pos, AllocError>
-    ensures { IfOk result (λ x. x ≡ bound_of upto.now (held ours.now)) }
+    ensures { IfOk result (λ x. x ≡ bound_of upto.now (held_fragments ours.now)) }
 {
     match ours.place(alloc)? {
         Some((first, _)) if upto.cmp(&first).is_gt() => Ok(first),
@@ -567,7 +567,7 @@ fn is_near(
     theirs: &Held,
     upto: &Pos,
 ) -> Result<bool, AllocError>
-    ensures { IfOk result (λ b. b ≡ is_near upto.now turn.now (held ours.now) (held theirs.now)) }
+    ensures { IfOk result (λ b. b ≡ is_near upto.now turn.now (held_fragments ours.now) (held_fragments theirs.now)) }
 {
     match turn {
         Turn::Nobody => Ok(false),
@@ -579,7 +579,7 @@ fn is_near(
 
 // The rows that are held first as one, if both are rows.
 fn joined_rows(alloc: Global, ours: &Held, theirs: &Held) -> Result<Option<Row>, AllocError>
-    ensures { IfOk result (λ row. row ≡ row_of_both (row_of (held ours.now)) (row_of (held theirs.now))) }
+    ensures { IfOk result (λ row. row ≡ row_of_both (row_of (held_fragments ours.now)) (row_of (held_fragments theirs.now))) }
 {
     let Some(row) = ours.copy_row(alloc)? else {
         return Ok(None);

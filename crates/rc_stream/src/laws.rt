@@ -5,7 +5,7 @@ ghost use Rattle.std.specs.Option.{option_to_list};
 ghost use Rattle.rc_cell.specs.Greatest.{greater};
 ghost use Rattle.rc_cell.specs.Orders.{tomb_cmp};
 ghost use Rattle.rc_mutation.specs.laws.ByKey.{joined_if_any};
-ghost use Rattle.rc_stream.specs.Merging.{IsOrdered, IsTelling, joined_head, merged, rows_here};
+ghost use Rattle.rc_stream.specs.Merging.{IsOrdered, IsTelling, joined_head, merged_stream, rows_here};
 ghost use Rattle.std.specs.Ordering.{is_le};
 ghost use Rattle.rc_position.specs.declared.positions.Pos.{Pos};
 ghost use Rattle.rc_position.specs.Position.{pos_cmp};
@@ -18,7 +18,7 @@ ghost use Rattle.rc_stream.specs.declared.merges.Merge.{Merge};
 ghost use Rattle.rc_stream.specs.Moving.{Keeps, KeepsSeen};
 ghost use Rattle.rc_stream.specs.Places.{Reaches};
 ghost use Rattle.rc_stream.specs.Showing.{EitherSpot, IsFromStart, MergesTwo};
-ghost use Rattle.rc_stream.specs.Stream.{Stream, force, is_passed, says, sought, stream_of, took};
+ghost use Rattle.rc_stream.specs.Stream.{Stream, force, is_passed, says, sought_stream, stream_of, took};
 
 use crate::merges::Merge;
 use crate::streams::Frags;
@@ -38,7 +38,7 @@ pub fn the_stream_of_a_mutation()
 
 /// After a seek a stream says the same as before at the position and at each one behind it.
 pub fn a_seek_changes_nothing_from_there_on()
-    ensures { (s : Stream) (x y : Pos) → IsTrue (is_le (pos_cmp x y)) → says y (sought x s) ≡ says y s }
+    ensures { (s : Stream) (x y : Pos) → IsTrue (is_le (pos_cmp x y)) → says y (sought_stream x s) ≡ says y s }
 {}
 
 /// After its first was taken, a stream says the same as before at each position that lies behind it: behind a row, or at a
@@ -51,26 +51,26 @@ pub fn a_taken_fragment_changes_nothing_behind()
 /// Two streams merged have the greater partition tombstone and the static rows as one, at each position the row of both as
 /// one, where one of both has any, and the greater of the tombstones in force there.
 pub fn a_merge_says_what_both_say()
-    ensures head { (s t : Stream) → (merged s t).head ≡ joined_head s.head t.head }
+    ensures head { (s t : Stream) → (merged_stream s t).head ≡ joined_head s.head t.head }
     ensures rows { (s t : Stream) (x : Pos) → IsOrdered s.left → IsOrdered t.left →
-        rows_here x (merged s t).left ≡ option_to_list (joined_if_any (rows_here x s.left ++ rows_here x t.left)) }
-    ensures first { (s t : Stream) → (merged s t).tomb ≡ greater tomb_cmp s.tomb t.tomb }
+        rows_here x (merged_stream s t).left ≡ option_to_list (joined_if_any (rows_here x s.left ++ rows_here x t.left)) }
+    ensures first { (s t : Stream) → (merged_stream s t).tomb ≡ greater tomb_cmp s.tomb t.tomb }
     ensures tombs { (s t : Stream) (x : Pos) → IsOrdered s.left → IsOrdered t.left →
-        force x (merged s t).tomb (merged s t).left ≡ greater tomb_cmp (force x s.tomb s.left) (force x t.tomb t.left) }
+        force x (merged_stream s t).tomb (merged_stream s t).left ≡ greater tomb_cmp (force x s.tomb s.left) (force x t.tomb t.left) }
 {}
 
 /// The streams of the fragments of two mutations, merged, are the stream of the fragments of what both join to.
 pub fn a_merge_is_the_stream_of_the_join()
     ensures { (one other joined : Mutation) → IsMutation one → IsMutation other → IsMutation joined →
         IsJoinOf joined (one ∷ other ∷ []) →
-        merged (stream_of (fragments one)) (stream_of (fragments other)) ≡ stream_of (fragments joined) }
+        merged_stream (stream_of (fragments one)) (stream_of (fragments other)) ≡ stream_of (fragments joined) }
 {}
 
 /// Two streams merged are canonical: rows and changes by strictly ascending place, and each change tells of a tombstone
 /// that was not in force before it.
 pub fn a_merge_is_canonical()
-    ensures ordered { (s t : Stream) → IsOrdered s.left → IsOrdered t.left → IsOrdered (merged s t).left }
-    ensures telling { (s t : Stream) → IsOrdered s.left → IsOrdered t.left → IsTelling (merged s t).tomb (merged s t).left }
+    ensures ordered { (s t : Stream) → IsOrdered s.left → IsOrdered t.left → IsOrdered (merged_stream s t).left }
+    ensures telling { (s t : Stream) → IsOrdered s.left → IsOrdered t.left → IsTelling (merged_stream s t).tomb (merged_stream s t).left }
 {}
 
 /// Canonical streams of the same head and the same tombstone before their first that say the same at each position are
@@ -83,12 +83,12 @@ pub fn a_canonical_stream_is_determined()
 /// Two streams merged and then sought are both sought and then merged.
 pub fn a_merge_is_sought_in_both()
     ensures { (s t : Stream) (x : Pos) → IsOrdered s.left → IsOrdered t.left →
-        sought x (merged s t) ≡ merged (sought x s) (sought x t) }
+        sought_stream x (merged_stream s t) ≡ merged_stream (sought_stream x s) (sought_stream x t) }
 {}
 
 /// A later seek forgets an earlier one.
 pub fn a_later_seek_forgets_an_earlier()
-    ensures { (s : Stream) (x y : Pos) → IsTrue (is_le (pos_cmp x y)) → sought y (sought x s) ≡ sought y s }
+    ensures { (s : Stream) (x y : Pos) → IsTrue (is_le (pos_cmp x y)) → sought_stream y (sought_stream x s) ≡ sought_stream y s }
 {}
 
 /// A new merge of two parts stands for what both say together, whichever streams the parts stand for, from their beginning or from
@@ -97,7 +97,7 @@ pub fn a_later_seek_forgets_an_earlier()
 /// which the parts might stand, and may name as damaged what they may.
 pub fn a_new_merge_stands_for_both<H, W: Store, A: Frags<H, W>, B: Frags<H, W>>()
     ensures seen { (a : A) (b : B) (m : Merge A B) (h : H) (w : W) (s t : Stream) → IsNewMerge a b m → A.seen a h w s → B.seen b h w t →
-        s.tomb ≡ None → t.tomb ≡ None → IsOrdered s.left → IsOrdered t.left → ⟦<Merge<A, B> as Frags<H, W>>⟧.seen m h w (merged s t) }
+        s.tomb ≡ None → t.tomb ≡ None → IsOrdered s.left → IsOrdered t.left → ⟦<Merge<A, B> as Frags<H, W>>⟧.seen m h w (merged_stream s t) }
     ensures ready { (a : A) (b : B) (m : Merge A B) (h : H) (w : W) → IsNewMerge a b m → A.ready a h w → B.ready b h w →
         Keeps B.moves A.ready → Keeps A.moves B.ready → KeepsSeen B.moves A.seen → KeepsSeen A.moves B.seen → ⟦<Merge<A, B> as Frags<H, W>>⟧.ready m h w }
     ensures ahead { (a : A) (b : B) (m : Merge A B) (x : Pos) → IsNewMerge a b m → ((y : Pos) → Reaches x y → A.ahead a y) → ((y : Pos) → Reaches x y → B.ahead b y) →

@@ -2,7 +2,7 @@
 ghost use Rattle.rc_stream.specs.Fronts.{front_tomb, front_change};
 ghost use Rattle.std.specs.Prelude.{◌≡◌, ◌+◌, ◌≤◌, Some, None, drop, length, IfOk, IfSome, IsTrue, OnOk, OnErr};
 ghost use Rattle.rc_position.specs.Position.{row_pos};
-ghost use Rattle.rc_stream.specs.Stream.{without_head, clustered, first_upto, force, is_passed, is_upto, onward, opening, start_of, static_of, stream_of, sought, took};
+ghost use Rattle.rc_stream.specs.Stream.{without_head, clustered_front, first_upto, force, is_passed, is_upto, onward, opening, start_of, static_of, stream_of, sought_stream, took};
 ghost use Rattle.rc_mutation.specs.Fragments.{tomb_after};
 
 use crate::streams::{Frags, StreamErr};
@@ -32,7 +32,7 @@ pub struct ListFrags {
 
 impl Model for ListFrags {
     ghost use Rattle.std.specs.Prelude.{◌++◌, ◌≤◌, drop, length};
-    ghost use Rattle.rc_stream.specs.Stream.{Stream, clustered, start_of, static_of};
+    ghost use Rattle.rc_stream.specs.Stream.{Stream, clustered_front, start_of, static_of};
     ghost use Rattle.rc_stream.specs.Fronts.{front_tomb, front_change};
 
     ghost Value = { Stream };
@@ -42,7 +42,7 @@ impl Model for ListFrags {
     ghost view = { λ s. record {
       head = record { pt = start_of s.list; statics = static_of s.list };
       tomb = front_tomb s.front;
-      left = front_change s.front ++ clustered (drop s.taken s.list);
+      left = front_change s.front ++ clustered_front (drop s.taken s.list);
     } };
 }
 
@@ -73,7 +73,7 @@ impl ListFrags {
 
     /// Goes on to the position. The only error is want of memory: then the stream is as it was.
     pub fn go_on(&mut self, alloc: Global, to: &Pos) -> Result<(), AllocError>
-        ensures ok { OnOk result (self.new ≡ sought to.now self.old) }
+        ensures ok { OnOk result (self.new ≡ sought_stream to.now self.old) }
         ensures err { OnErr result (self.new ≡ self.old) }
     {
         let tomb = match &self.front {
@@ -224,8 +224,8 @@ fn pass(
     tomb: Option<Tomb>,
     to: &Pos,
 ) -> Result<(usize, Option<Tomb>), AllocError>
-    ensures left { IfOk result (λ p. clustered (drop p.0 items.now) ≡ onward to.now (clustered items.now)) }
-    ensures tomb { IfOk result (λ p. p.1 ≡ force to.now tomb (clustered items.now)) }
+    ensures left { IfOk result (λ p. clustered_front (drop p.0 items.now) ≡ onward to.now (clustered_front items.now)) }
+    ensures tomb { IfOk result (λ p. p.1 ≡ force to.now tomb (clustered_front items.now)) }
     ensures size { IfOk result (λ p. p.0 ≤ length items.now) }
 {
     let mut passed = 0;
@@ -287,7 +287,7 @@ pub(crate) fn row_pos(alloc: Global, key: &Key) -> Result<Pos, AllocError>
 
 // A copy of the first row or change, if it stands at the position or before it.
 fn copy_first(alloc: Global, items: &[Frag], upto: &Pos) -> Result<Option<Frag>, AllocError>
-    ensures { IfOk result (λ got. got ≡ first_upto upto.now (clustered items.now)) }
+    ensures { IfOk result (λ got. got ≡ first_upto upto.now (clustered_front items.now)) }
 {
     let [first, _rest @ ..] = items else {
         return Ok(None);

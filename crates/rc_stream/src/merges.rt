@@ -6,14 +6,14 @@ ghost use Rattle.rc_stream.specs.Both.{AheadOfBoth, BothFresh, BothReady, HoldBo
 ghost use Rattle.rc_stream.specs.calls.Both.{LookedBoth};
 ghost use Rattle.rc_stream.specs.Leaving.{left_by};
 ghost use Rattle.rc_stream.specs.Causes.{Caused};
-ghost use Rattle.rc_stream.specs.Did.{InTurn, ReachesEnd, HeadsOnce, IsNewMerge, OneCall, answered, merge_state};
+ghost use Rattle.rc_stream.specs.Did.{InTurn, ReachesEnd, HeadsOnce, IsNewMerge, OneCall, has_answer, merge_state};
 ghost use Rattle.rc_stream.specs.calls.Holding.{IsStepUpto};
 ghost use Rattle.rc_stream.specs.Moving.{Moved};
 ghost use Rattle.rc_stream.specs.calls.Moving.{RoundReaches, StepLeaves};
 ghost use Rattle.rc_stream.specs.Merging.{joined_head};
 ghost use Rattle.rc_stream.specs.Places.{Passes};
 ghost use Rattle.rc_stream.specs.Showing.{Blames, ShowsOne};
-ghost use Rattle.rc_stream.specs.Stream.{Stream, first_upto, is_upto, sought};
+ghost use Rattle.rc_stream.specs.Stream.{Stream, first_upto, is_upto, sought_stream};
 
 use crate::holding::{Step, bound, joined_row, make_step};
 use crate::parts::{Peeked, go_on, look_ahead};
@@ -71,7 +71,7 @@ fn look_at_both<H, W: Store, A: Frags<H, W>, B: Frags<H, W>>(
     requires keeps { KeepEachOther A.ready A.seen A.moves B.ready B.seen B.moves }
     ensures holds { (m : Stream) → HoldBoth A.seen B.seen merge.old home.old store.old m → HoldBoth A.seen B.seen merge.new home.new store.new m }
     ensures known { OnOk result ((m : Stream) → HoldBoth A.seen B.seen merge.old home.old store.old m → LookedBoth A.seen B.seen merge.new home.new store.new upto.now m) }
-    ensures did { (y : Pos) → ReachesEnd (HoldBoth A.seen B.seen merge.old home.old store.old) upto.now y → InTurn (OneCall A.did B.did None y) (answered result) (merge_state merge.old home.old store.old) (merge_state merge.new home.new store.new) }
+    ensures did { (y : Pos) → ReachesEnd (HoldBoth A.seen B.seen merge.old home.old store.old) upto.now y → InTurn (OneCall A.did B.did None y) (has_answer result) (merge_state merge.old home.old store.old) (merge_state merge.new home.new store.new) }
     ensures ahead { (x : Pos) → MaySeekBoth A.ahead B.ahead merge.old x → MaySeekBoth A.ahead B.ahead merge.new x }
     ensures ready { BothReady A.ready B.ready merge.new home.new store.new }
     ensures due { merge.new.due ≡ merge.old.due }
@@ -101,7 +101,7 @@ fn round<H, W: Store, A: Frags<H, W>, B: Frags<H, W>>(
     requires keeps { KeepEachOther A.ready A.seen A.moves B.ready B.seen B.moves }
     ensures says { (m : Stream) → HoldBoth A.seen B.seen merge.old home.old store.old m → StepLeaves result upto.now m (HoldBoth A.seen B.seen merge.new home.new store.new) }
     ensures upto { IfOk result (IsStepUpto upto.now) }
-    ensures did { (y : Pos) → ReachesEnd (HoldBoth A.seen B.seen merge.old home.old store.old) upto.now y → InTurn (OneCall A.did B.did None y) (answered result) (merge_state merge.old home.old store.old) (merge_state merge.new home.new store.new) }
+    ensures did { (y : Pos) → ReachesEnd (HoldBoth A.seen B.seen merge.old home.old store.old) upto.now y → InTurn (OneCall A.did B.did None y) (has_answer result) (merge_state merge.old home.old store.old) (merge_state merge.new home.new store.new) }
     ensures ahead { (x : Pos) → RoundReaches result x → MaySeekBoth A.ahead B.ahead merge.old x → MaySeekBoth A.ahead B.ahead merge.new x }
     ensures ready { BothReady A.ready B.ready merge.new home.new store.new }
     ensures due { merge.new.due ≡ merge.old.due }
@@ -133,7 +133,7 @@ fn next_of_both<H, W: Store, A: Frags<H, W>, B: Frags<H, W>>(
     ensures gives { (m : Stream) → HoldBoth A.seen B.seen merge.old home.old store.old m → IfOk result (λ got. got ≡ first_upto upto.now m.left) }
     ensures left { (m : Stream) → HoldBoth A.seen B.seen merge.old home.old store.old m → HoldBoth A.seen B.seen merge.new home.new store.new (left_by result m) }
     ensures upto { IfOk result (λ got. IfSome got (λ f. IsTrue (is_upto upto.now f))) }
-    ensures did { (y : Pos) → ReachesEnd (HoldBoth A.seen B.seen merge.old home.old store.old) upto.now y → InTurn (OneCall A.did B.did None y) (answered result) (merge_state merge.old home.old store.old) (merge_state merge.new home.new store.new) }
+    ensures did { (y : Pos) → ReachesEnd (HoldBoth A.seen B.seen merge.old home.old store.old) upto.now y → InTurn (OneCall A.did B.did None y) (has_answer result) (merge_state merge.old home.old store.old) (merge_state merge.new home.new store.new) }
     ensures ahead { (x : Pos) → Passes result x → MaySeekBoth A.ahead B.ahead merge.old x → MaySeekBoth A.ahead B.ahead merge.new x }
     ensures ready { BothReady A.ready B.ready merge.new home.new store.new }
     ensures due { merge.new.due ≡ merge.old.due }
@@ -166,9 +166,9 @@ fn go_on_in_both<H, W: Store, A: Frags<H, W>, B: Frags<H, W>>(
     requires ready { BothReady A.ready B.ready merge.old home.old store.old }
     requires keeps { KeepEachOther A.ready A.seen A.moves B.ready B.seen B.moves }
     requires ahead { MaySeekBoth A.ahead B.ahead merge.old to.now }
-    ensures ok { OnOk result ((m : Stream) → HoldBoth A.seen B.seen merge.old home.old store.old m → HoldBoth A.seen B.seen merge.new home.new store.new (sought to.now m)) }
-    ensures again { (m : Stream) → HoldBoth A.seen B.seen merge.old home.old store.old m → ((n : Stream) × HoldBoth A.seen B.seen merge.new home.new store.new n × (sought to.now n ≡ sought to.now m)) }
-    ensures did { (y : Pos) → InTurn (OneCall A.did B.did (Some to.now) y) (answered result) (merge_state merge.old home.old store.old) (merge_state merge.new home.new store.new) }
+    ensures ok { OnOk result ((m : Stream) → HoldBoth A.seen B.seen merge.old home.old store.old m → HoldBoth A.seen B.seen merge.new home.new store.new (sought_stream to.now m)) }
+    ensures again { (m : Stream) → HoldBoth A.seen B.seen merge.old home.old store.old m → ((n : Stream) × HoldBoth A.seen B.seen merge.new home.new store.new n × (sought_stream to.now n ≡ sought_stream to.now m)) }
+    ensures did { (y : Pos) → InTurn (OneCall A.did B.did (Some to.now) y) (has_answer result) (merge_state merge.old home.old store.old) (merge_state merge.new home.new store.new) }
     ensures ahead { MaySeekBoth A.ahead B.ahead merge.new to.now }
     ensures ready { BothReady A.ready B.ready merge.new home.new store.new }
     ensures due { merge.new.due ≡ merge.old.due }
@@ -195,7 +195,7 @@ fn settle<H, W: Store, A: Frags<H, W>, B: Frags<H, W>>(
     requires due { IsDueAhead A.ahead B.ahead merge.old }
     ensures ok { OnOk result (merge.new.due ≡ None) }
     ensures seen { (s : Stream) → SoughtBoth A.seen B.seen merge.old home.old store.old s → SoughtBoth A.seen B.seen merge.new home.new store.new s }
-    ensures did { (y : Pos) → InTurn (OneCall A.did B.did merge.old.due y) (answered result) (merge_state merge.old home.old store.old) (merge_state merge.new home.new store.new) }
+    ensures did { (y : Pos) → InTurn (OneCall A.did B.did merge.old.due y) (has_answer result) (merge_state merge.old home.old store.old) (merge_state merge.new home.new store.new) }
     ensures ahead { (x : Pos) → AheadOfBoth A.ahead B.ahead merge.old x → AheadOfBoth A.ahead B.ahead merge.new x }
     ensures due { IsDueAhead A.ahead B.ahead merge.new }
     ensures ready { BothReady A.ready B.ready merge.new home.new store.new }
@@ -230,7 +230,7 @@ fn head_of_both<H, W: Store, A: Frags<H, W>, B: Frags<H, W>>(
     ensures fresh { BothFresh A.fresh B.fresh merge.old → BothFresh A.fresh B.fresh merge.new }
     ensures might { (m : Stream) → MightBoth A.might B.might merge.new m → MightBoth A.might B.might merge.old m }
     ensures seen { (m : Stream) → HoldBoth A.seen B.seen merge.old home.old store.old m → HoldBoth A.seen B.seen merge.new home.new store.new m }
-    ensures did { HeadsOnce A.did B.did (answered result) (merge_state merge.old home.old store.old) (merge_state merge.new home.new store.new) }
+    ensures did { HeadsOnce A.did B.did (has_answer result) (merge_state merge.old home.old store.old) (merge_state merge.new home.new store.new) }
     ensures ahead { (x : Pos) → MaySeekBoth A.ahead B.ahead merge.old x → MaySeekBoth A.ahead B.ahead merge.new x }
     ensures ready { BothReady A.ready B.ready merge.new home.new store.new }
     ensures due { merge.new.due ≡ merge.old.due }

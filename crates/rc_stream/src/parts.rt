@@ -5,10 +5,10 @@ ghost use Rattle.rc_position.specs.declared.positions.Pos.{Pos};
 ghost use Rattle.rc_stream.specs.calls.Both.{IsLookedUpto};
 ghost use Rattle.rc_stream.specs.Leaving.{sought_by};
 ghost use Rattle.rc_stream.specs.Causes.{Caused};
-ghost use Rattle.rc_stream.specs.Holding.{held};
-ghost use Rattle.rc_stream.specs.Did.{ReachesEnd, answered, Call.OfNext, Call.OfSeek};
+ghost use Rattle.rc_stream.specs.Holding.{held_fragments};
+ghost use Rattle.rc_stream.specs.Did.{ReachesEnd, has_answer, Call.OfNext, Call.OfSeek};
 ghost use Rattle.rc_stream.specs.calls.Did.{OnceDid};
-ghost use Rattle.rc_stream.specs.Moving.{Holds, MaySeek, Once, unpeeked};
+ghost use Rattle.rc_stream.specs.Moving.{Holds, MaySeek, Once, unpeeked_stream};
 ghost use Rattle.rc_stream.specs.Showing.{Blames};
 ghost use Rattle.rc_stream.specs.Stream.{Stream};
 
@@ -30,7 +30,7 @@ pub(crate) struct Peeked<A> {
 impl<A> Peeked<A> {
     /// The stream, of which nothing is held.
     pub(crate) fn new(stream: A) -> Self
-        ensures { result ≡ unpeeked stream }
+        ensures { result ≡ unpeeked_stream stream }
     {
         Peeked {
             stream,
@@ -57,7 +57,7 @@ pub(crate) fn look_ahead<H, W: Store, A: Frags<H, W>>(
 ) -> Result<(), StreamErr>
     requires { A.ready part.old.stream home.old store.old }
     ensures holds { (t : Stream) → Holds A.seen part.old home.old store.old t → Holds A.seen part.new home.new store.new t }
-    ensures did { (y : Pos) → (held part.old.held ≡ [] → ReachesEnd (A.seen part.old.stream home.old store.old) upto.now y) → OnceDid A.did part.old.stream home.old store.old (OfNext y) (answered result) part.new.stream home.new store.new }
+    ensures did { (y : Pos) → (held_fragments part.old.held ≡ [] → ReachesEnd (A.seen part.old.stream home.old store.old) upto.now y) → OnceDid A.did part.old.stream home.old store.old (OfNext y) (has_answer result) part.new.stream home.new store.new }
     ensures known { OnOk result ((t : Stream) → Holds A.seen part.old home.old store.old t → IsLookedUpto part.new.held upto.now t) }
     ensures ahead { (x : Pos) → MaySeek A.ahead part.old x → MaySeek A.ahead part.new x }
     ensures ready { A.ready part.new.stream home.new store.new }
@@ -89,7 +89,7 @@ pub(crate) fn go_on<H, W: Store, A: Frags<H, W>>(
     requires ready { A.ready part.old.stream home.old store.old }
     requires ahead { MaySeek A.ahead part.old to.now }
     ensures holds { (t : Stream) → Holds A.seen part.old home.old store.old t → Holds A.seen part.new home.new store.new (sought_by result to.now t) }
-    ensures did { OnceDid A.did part.old.stream home.old store.old (OfSeek to.now) (answered result) part.new.stream home.new store.new }
+    ensures did { OnceDid A.did part.old.stream home.old store.old (OfSeek to.now) (has_answer result) part.new.stream home.new store.new }
     ensures ahead { MaySeek A.ahead part.new to.now }
     ensures ready { A.ready part.new.stream home.new store.new }
     ensures moves { Once A.moves home.old store.old home.new store.new }

@@ -39,7 +39,7 @@ pub trait Frags<H, W: Store> {
     ghost use Rattle.std.specs.Prelude.{◌≡◌, ℕ, Bool};
     ghost use Rattle.rc_position.specs.declared.positions.Pos.{Pos};
     ghost use Rattle.rc_stream.specs.Leaving.{left_by, sought_by};
-    ghost use Rattle.rc_stream.specs.Did.{Call, ReachesEnd, answered, Call.OfHead, Call.OfNext, Call.OfSeek};
+    ghost use Rattle.rc_stream.specs.Did.{Call, ReachesEnd, has_answer, Call.OfHead, Call.OfNext, Call.OfSeek};
     ghost use Rattle.rc_stream.specs.Causes.{Caused};
     ghost use Rattle.rc_stream.specs.Stream.{Stream, first_upto, is_upto};
     ghost use Rattle.rc_stream.specs.Places.{Passes, Reaches};
@@ -81,7 +81,7 @@ pub trait Frags<H, W: Store> {
         ensures ahead { (x : Pos) → ahead self.old x → ahead self.new x }
         ensures ready { ready self.new home.new store.new }
         ensures moves { moves home.old store.old home.new store.new }
-        ensures did { did self.old home.old store.old OfHead (answered result) self.new home.new store.new }
+        ensures did { did self.old home.old store.old OfHead (has_answer result) self.new home.new store.new }
         ensures damage { Blames (damage self.old) (damage self.new) result }
         ensures cause { Caused result (W.files store.old) (W.faults store.old) (W.faults store.new) }
         ensures store { HoldsSameFiles W.files W.building store.old store.new };
@@ -103,7 +103,7 @@ pub trait Frags<H, W: Store> {
         ensures kept { OnErr result ((x : Pos) → ahead self.old x → ahead self.new x) }
         ensures ready { ready self.new home.new store.new }
         ensures moves { moves home.old store.old home.new store.new }
-        ensures did { did self.old home.old store.old (OfSeek to.now) (answered result) self.new home.new store.new }
+        ensures did { did self.old home.old store.old (OfSeek to.now) (has_answer result) self.new home.new store.new }
         ensures damage { Blames (damage self.old) (damage self.new) result }
         ensures cause { Caused result (W.files store.old) (W.faults store.old) (W.faults store.new) }
         ensures store { HoldsSameFiles W.files W.building store.old store.new };
@@ -126,7 +126,7 @@ pub trait Frags<H, W: Store> {
         ensures ahead { (x : Pos) → Passes result x → ahead self.old x → ahead self.new x }
         ensures ready { ready self.new home.new store.new }
         ensures moves { moves home.old store.old home.new store.new }
-        ensures did { (y : Pos) → ReachesEnd (seen self.old home.old store.old) upto.now y → did self.old home.old store.old (OfNext y) (answered result) self.new home.new store.new }
+        ensures did { (y : Pos) → ReachesEnd (seen self.old home.old store.old) upto.now y → did self.old home.old store.old (OfNext y) (has_answer result) self.new home.new store.new }
         ensures damage { Blames (damage self.old) (damage self.new) result }
         ensures cause { Caused result (W.files store.old) (W.faults store.old) (W.faults store.new) }
         ensures store { HoldsSameFiles W.files W.building store.old store.new };

@@ -26,7 +26,7 @@ use Rattle.rc_writes.specs.Allowed.{ChangeFits, IsRangeBound, IsRowOf, IsStaticO
 use Rattle.rc_tfile.specs.laws.Follows.{all_of}
 use Rattle.rc_tfile.specs.laws.Standing.{clustered_so}
 use Rattle.rc_tables.specs.Located.{ArePartItems, SaysOf}
-use Rattle.rc_tables.specs.calls.Rebuilt.{AllCome, MayCome, IsSpellable, open_range, changes_among, ended, frag_code, pieces_between, rows_among}
+use Rattle.rc_tables.specs.calls.Rebuilt.{AllCome, MayCome, IsSpellable, open_range, changes_among, ended_range, frag_code, pieces_between, rows_among}
 use Rattle.rc_tables.proofs.Apart.{front_first, ranges_between, rows_between}
 use Rattle.rc_tables.proofs.Spelled.{IsPartBytes, IsPartItem, code_of_part, items_spelled}
 
@@ -77,7 +77,7 @@ module _ (schema : SchemaValue) where
   come_changes tomb last (frag.Change x next ∷ fs) h = (h.0.2, come_changes next (Some x) fs h.1)
   come_changes tomb last (frag.End ∷ fs) h = absurd h.0
 
-  one_piece : (start : Option (Pos × Tomb)) (x : Pos) (o : Option (List Piece)) → IfSome start (λ s. IsRangeBound schema s.0) → IsRangeBound schema x → IfSome o (AllByRecursion IsPieceHere) → IfSome (option_map (λ ps. ended start x ++ ps) o) (AllByRecursion IsPieceHere)
+  one_piece : (start : Option (Pos × Tomb)) (x : Pos) (o : Option (List Piece)) → IfSome start (λ s. IsRangeBound schema s.0) → IsRangeBound schema x → IfSome o (AllByRecursion IsPieceHere) → IfSome (option_map (λ ps. ended_range start x ++ ps) o) (AllByRecursion IsPieceHere)
   one_piece start x None s b h = tt
   one_piece None x (Some ps) s b h = h
   one_piece (Some start) x (Some ps) s b h = ((s, b), h)

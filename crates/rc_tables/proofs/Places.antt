@@ -21,7 +21,7 @@ use Rattle.rc_writes.specs.Allowed.{IsStaticOf}
 use Rattle.rc_tfile.specs.TableText.{AllFit, items_to_stop, frag_items, whole_table, part_items}
 use Rattle.rc_tfile.specs.laws.Follows.{followed_by-append, text-followed_by, by_recursion}
 use Rattle.rc_tfile.specs.laws.Drafts.{parts_of, body_is}
-use Rattle.rc_tables.specs.Located.{IsEntryAt, EndsAt, MayLie, glimpsed}
+use Rattle.rc_tables.specs.Located.{IsEntryAt, EndsAt, MayLie, glimpse_length}
 use Rattle.rc_tables.specs.calls.Located.{IsLocated, IsSpan}
 use Rattle.rc_tables.specs.calls.Rebuilt.{AllCome}
 use Rattle.rc_mutation.specs.Fragments.{rows_and_changes}
@@ -184,7 +184,7 @@ bytes_told (Some files) n off piece bytes is h = h bytes is
 module _ (schema : SchemaValue) (before : List Partition) (p : Partition) where
   -- where the partition ends is what the next bytes of the directory say, or the stop
   ends_at : (behind : List Partition) → AllByRecursion (λ q. IsMutation q.change) (before ++ p ∷ behind) → AllFit schema (whole_table schema (before ++ p ∷ behind))
-      → (off : ℕ) (bytes : List ℕ) → bytes ≡ take (glimpsed (refs_from off (later schema before p behind))) (following schema before p behind)
+      → (off : ℕ) (bytes : List ℕ) → bytes ≡ take (glimpse_length (refs_from off (later schema before p behind))) (following schema before p behind)
       → EndsAt (dir schema before p behind) bytes (refs_from off (later schema before p behind)) (offset (next schema before p behind))
   ends_at [] are fit off bytes e =
       let mid = flat_map item_code (part_items p) in
@@ -202,7 +202,7 @@ module _ (schema : SchemaValue) (before : List Partition) (p : Partition) where
       let low : offset to < 2 ^ 64 = (both_parts IsItem (entry_items (mine schema before p (q ∷ qs))) (entry_items theirs ++ others) (entry_items_fit schema before p (q ∷ qs) are fit)).1.0.0 in
       (length theirs.blocks, kept.0, low, e ∙ ap (take (min (directory_entry_size theirs) 78)) (append_assoc first rest (tail schema before p (q ∷ qs))) ∙ kept.1)
 
-  glimpse_within : (behind : List Partition) (off : ℕ) → glimpsed (refs_from off (later schema before p behind)) ≤ length (following schema before p behind)
+  glimpse_within : (behind : List Partition) (off : ℕ) → glimpse_length (refs_from off (later schema before p behind)) ≤ length (following schema before p behind)
   glimpse_within [] off = omega arith
   glimpse_within (q ∷ qs) off =
       let theirs = entry_of (next schema before p (q ∷ qs)) q in
@@ -261,15 +261,15 @@ module _ (files : Option Files) (n at : ℕ) (here : PartRef) (behind : List Par
       (length entry_mine.blocks, kept.0, low, read ∙ ap (λ k. item_code (EntryItem k (offset where_from) (length entry_mine.blocks)) ++ kept.0) (sym key_is))
 
   -- and where it ends
-  pub ends_there : (piece : List ℕ) → AreBytesOf files n here.dir_off piece → length piece ≡ here.dir_len + glimpsed behind → EndsAt at (drop here.dir_len piece) behind (offset where_to)
+  pub ends_there : (piece : List ℕ) → AreBytesOf files n here.dir_off piece → length piece ≡ here.dir_len + glimpse_length behind → EndsAt at (drop here.dir_len piece) behind (offset where_to)
   ends_there piece h size =
       let rest = following is.schema is.before p is.behind in
       let code = flat_map item_code (entry_items entry_mine) in
-      let read : drop here.dir_len piece ≡ take (glimpsed behind) rest =
+      let read : drop here.dir_len piece ≡ take (glimpse_length behind) rest =
       ap (drop here.dir_len) (read_is piece h ∙ ap (λ k. take k (code ++ rest)) size)
-      ∙ drop-take here.dir_len (glimpsed behind) (code ++ rest)
-      ∙ ap (take (glimpsed behind)) (drop_at code rest here.dir_len (sym size_is)) in
-      let there = ends_at is.schema is.before p is.behind are is.table.fit (begins + directory_entry_size entry_mine) (drop here.dir_len piece) (read ∙ ap (λ rs. take (glimpsed rs) rest) refs_are.1) in
+      ∙ drop-take here.dir_len (glimpse_length behind) (code ++ rest)
+      ∙ ap (take (glimpse_length behind)) (drop_at code rest here.dir_len (sym size_is)) in
+      let there = ends_at is.schema is.before p is.behind are is.table.fit (begins + directory_entry_size entry_mine) (drop here.dir_len piece) (read ∙ ap (λ rs. take (glimpse_length rs) rest) refs_are.1) in
       subst (λ d. EndsAt d (drop here.dir_len piece) behind (offset where_to)) (sym is.directory)
       (subst (λ rs. EndsAt (dir is.schema is.before p is.behind) (drop here.dir_len piece) rs (offset where_to)) (sym refs_are.1) there)
 
@@ -315,11 +315,11 @@ module _ (files : Option Files) (n at : ℕ) (here : PartRef) (behind : List Par
   comes_there = part_comes is.schema is.before p is.behind is.table.fit ((both_parts (λ (q : Partition). IsMutation q.change) is.before (p ∷ is.behind) are).1.0)
 
   -- what is read of the directory lies in the file
-  pub reads_within : here.dir_off + (here.dir_len + glimpsed behind) ≤ length is.bytes
+  pub reads_within : here.dir_off + (here.dir_len + glimpse_length behind) ≤ length is.bytes
   reads_within =
       let code = flat_map item_code (entry_items entry_mine) in
       let rest = following is.schema is.before p is.behind in
-      let glimpse : glimpsed behind ≤ length rest = subst (λ rs. glimpsed rs ≤ length rest) (sym refs_are.1) (glimpse_within is.schema is.before p is.behind (begins + directory_entry_size entry_mine)) in
+      let glimpse : glimpse_length behind ≤ length rest = subst (λ rs. glimpse_length rs ≤ length rest) (sym refs_are.1) (glimpse_within is.schema is.before p is.behind (begins + directory_entry_size entry_mine)) in
       omega (arith, ap length bytes_are, length-append ahead (code ++ rest), length-append code rest, off_is, size_is, glimpse)
 
   -- what it says is what a mutation says

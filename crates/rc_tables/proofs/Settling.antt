@@ -5,7 +5,7 @@ use Rattle.rc_position.specs.declared.positions.Pos.{Pos}
 use Rattle.rc_mutation.specs.declared.fragments.Frag.{Frag}
 use Rattle.rc_mutation.specs.declared.fragments.Head.{Head}
 use Rattle.rc_stream.specs.Leaving.{left_by, sought_by}
-use Rattle.rc_stream.specs.Stream.{Stream, first_upto, sought, took}
+use Rattle.rc_stream.specs.Stream.{Stream, first_upto, sought_stream, took}
 use Rattle.rc_stream.specs.declared.streams.StreamErr.{StreamErr}
 use Rattle.rc_tables.specs.Streams.{DidAsk, Lazy, MayBe, Settled, asks_left, to_ask}
 use Rattle.rc_tables.specs.Tables.{listing}
@@ -15,7 +15,7 @@ module _ (t u : Lazy) (s : Stream) (might : MayBe t s) where
   head_settled (Ok h) read is = (s, record { might = might; read = read }, is)
   head_settled (Err e) read is = tt
 
-  pub seek_settled : (to : Pos) (r : Result (Unit {0}) StreamErr) → u.read ≡ Some (sought_by r to s) → OnOk r ((z : Stream) × Settled t u z (sought to z))
+  pub seek_settled : (to : Pos) (r : Result (Unit {0}) StreamErr) → u.read ≡ Some (sought_by r to s) → OnOk r ((z : Stream) × Settled t u z (sought_stream to z))
   seek_settled to (Ok x) left = (s, record { might = might; read = left })
   seek_settled to (Err e) left = tt
 

@@ -18,7 +18,7 @@ use Rattle.rc_tfile.specs.Before.{offset}
 use Rattle.rc_tfile.specs.laws.Starting.{key_free, rest_of}
 use Rattle.std.proofs.lemmas.Nat.{from_le_bytes-to_le_bytes_8}
 use Rattle.rc_tables.specs.declared.locating.Span.{Span}
-use Rattle.rc_tables.specs.Located.{ArePartItems, IsEntryAt, EndsAt, MayLie, SaysNoPart, SaysNoSpan, SaysOf, SaysSpan, glimpsed, WhereTold}
+use Rattle.rc_tables.specs.Located.{ArePartItems, IsEntryAt, EndsAt, MayLie, SaysNoPart, SaysNoSpan, SaysOf, SaysSpan, glimpse_length, WhereTold}
 use Rattle.rc_tables.specs.calls.Located.{IsLocated, IsLocatedOf, IsSpan}
 use Rattle.rc_tables.specs.calls.Rebuilt.{number_at_front}
 use Rattle.rc_tables.proofs.Places.{where_from, where_to, begins_there, ends_there, in_order, lies_there, reads_within, key_is, is_mutation, items_there, comes_there}
@@ -30,7 +30,7 @@ some_is s t e = cc
 
 -- what answers the offsets that the directory says answers the span of the partition
 pub span_found : (files : Option Files) (n at : ℕ) (here : PartRef) (behind : List PartRef) (p : Partition) (piece : List ℕ) (found : Option Span) (span : Span)
-    → IsLocated files n at (here ∷ behind) p → AreBytesOf files n here.dir_off piece → length piece ≡ here.dir_len + glimpsed behind
+    → IsLocated files n at (here ∷ behind) p → AreBytesOf files n here.dir_off piece → length piece ≡ here.dir_len + glimpse_length behind
     → ((from to : ℕ) → IsEntryAt piece here.key from → EndsAt at (drop here.dir_len piece) behind to → MayLie at from to → found ≡ Some (record { from = from; to = to }))
     → found ≡ Some span → IsSpan files n p span.from span.to
 span_found files n at here behind p piece found span is read size finds there =
@@ -43,7 +43,7 @@ span_found files n at here behind p piece found span is read size finds there =
 
 -- where a file is told and is the table, some span is found
 pub none_found : (files : Option Files) (n at : ℕ) (here : PartRef) (behind : List PartRef) (piece : List ℕ) (found : Option Span)
-    → WhereTold files ((p : Partition) × IsLocated files n at (here ∷ behind) p) → AreBytesOf files n here.dir_off piece → length piece ≡ here.dir_len + glimpsed behind
+    → WhereTold files ((p : Partition) × IsLocated files n at (here ∷ behind) p) → AreBytesOf files n here.dir_off piece → length piece ≡ here.dir_len + glimpse_length behind
     → ((from to : ℕ) → IsEntryAt piece here.key from → EndsAt at (drop here.dir_len piece) behind to → MayLie at from to → found ≡ Some (record { from = from; to = to }))
     → found ≡ None → files ≡ None
 none_found None n at here behind piece found told read size finds there = refl
@@ -54,7 +54,7 @@ none_found (Some files) n at here behind piece found told read size finds there 
     absurd (let q = sym there ∙ same in cc)
 
 -- what is read of the directory lies in the file
-pub directory_lies : (files : Option Files) (n at : ℕ) (here : PartRef) (behind : List PartRef) (count : ℕ) → WhereTold files ((p : Partition) × IsLocated files n at (here ∷ behind) p) → count ≡ here.dir_len + glimpsed behind → LiesInFile files n here.dir_off count
+pub directory_lies : (files : Option Files) (n at : ℕ) (here : PartRef) (behind : List PartRef) (count : ℕ) → WhereTold files ((p : Partition) × IsLocated files n at (here ∷ behind) p) → count ≡ here.dir_len + glimpse_length behind → LiesInFile files n here.dir_off count
 directory_lies None n at here behind count told e = tt
 directory_lies (Some files) n at here behind count told e =
     let is = told.1 in
@@ -146,7 +146,7 @@ none_decoded (Some files) schema n at here behind from to piece found told spans
 -- ---- damage
 
 -- where no span is found, the bytes say none
-pub no_span : (at : ℕ) (here : PartRef) (behind : List PartRef) (piece : List ℕ) (found : Option Span) → length piece ≡ here.dir_len + glimpsed behind
+pub no_span : (at : ℕ) (here : PartRef) (behind : List PartRef) (piece : List ℕ) (found : Option Span) → length piece ≡ here.dir_len + glimpse_length behind
     → ((from to : ℕ) → IsEntryAt piece here.key from → EndsAt at (drop here.dir_len piece) behind to → MayLie at from to → found ≡ Some (record { from = from; to = to })) → found ≡ None → SaysNoSpan at here behind
 no_span at here behind piece found size finds there = record { piece = piece; size = size; none = λ from to b e o. absurd (let q = sym there ∙ finds from to b e o in cc) }
 

@@ -16,9 +16,9 @@ WhereTold None P = ⊤
 WhereTold (Some files) P = P
 
 -- how many bytes are read of what the directory says of the first of these partitions: no more than 78, which hold what comes before its blocks
-abbrev pub glimpsed : List PartRef → ℕ
-glimpsed [] = 0
-glimpsed (r ∷ rs) = min r.dir_len 78
+abbrev pub glimpse_length : List PartRef → ℕ
+glimpse_length [] = 0
+glimpse_length (r ∷ rs) = min r.dir_len 78
 
 -- bytes of the directory begin with a partition of this key whose part begins at an offset
 abbrev pub IsEntryAt : List ℕ → List ℕ → ℕ → Type 0
@@ -46,13 +46,13 @@ pub record ArePartItems (schema : SchemaValue) (key : List ℕ) (m : Mutation) (
 -- bytes of the directory, as many as are read, contradict the table as checked: they do not say where the items of a partition lie
 pub record SaysNoSpan (dir : ℕ) (here : PartRef) (later : List PartRef) : Type 0 where
   pub piece : List ℕ
-  pub size : length piece ≡ here.dir_len + glimpsed later
+  pub size : length piece ≡ here.dir_len + glimpse_length later
   pub none : (from to : ℕ) → IsEntryAt piece here.key from → EndsAt dir (drop here.dir_len piece) later to → MayLie dir from to → ⊥
 
 -- bytes of the directory, as many as are read, say of no other offsets than these that the items of a partition lie from one up to the other
 pub record SaysSpan (dir : ℕ) (here : PartRef) (later : List PartRef) (from to : ℕ) : Type 0 where
   pub piece : List ℕ
-  pub size : length piece ≡ here.dir_len + glimpsed later
+  pub size : length piece ≡ here.dir_len + glimpse_length later
   pub begins : (x : ℕ) → IsEntryAt piece here.key x → x ≡ from
   pub ends : (x : ℕ) → EndsAt dir (drop here.dir_len piece) later x → x ≡ to
   pub order : MayLie dir from to

@@ -29,8 +29,8 @@ abbrev pub IsLazyOf : Option Files → Lazy → Stream → Type 0
 IsLazyOf files t stream = IsRead files t.schema t.infos t.key t.read stream
 
 -- its calls may be made over these files: where they are told, they are those of its tables
-abbrev pub IsReady : Option Files → Lazy → Type 0
-IsReady files t = WhereTold files (AreHeld files t.schema t.infos)
+abbrev pub MayBeCalledOver : Option Files → Lazy → Type 0
+MayBeCalledOver files t = WhereTold files (AreHeld files t.schema t.infos)
 
 -- how many ranges may still be asked for: two of each table that lists the key, none once it was read
 abbrev pub to_ask : Option Stream → ℕ → ℕ

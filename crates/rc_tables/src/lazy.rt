@@ -4,11 +4,11 @@ ghost use Rattle.std.specs.Prelude.{◌≡◌, ◌≤◌, ◌+◌, ◌*◌, IfEr
 ghost use Rattle.rc_outside.specs.Files.{HoldsSameFiles};
 ghost use Rattle.rc_stream.specs.Leaving.{left_by, sought_by};
 ghost use Rattle.rc_stream.specs.Causes.{Caused};
-ghost use Rattle.rc_stream.specs.Stream.{Stream, first_upto, is_upto, sought, took};
+ghost use Rattle.rc_stream.specs.Stream.{Stream, first_upto, is_upto, sought_stream, took};
 ghost use Rattle.rc_tables.specs.Located.{WhereTold};
-ghost use Rattle.rc_stream.specs.Did.{answered};
+ghost use Rattle.rc_stream.specs.Did.{has_answer};
 ghost use Rattle.rc_tables.specs.Tables.{AreHeld, IsDamageOf, IsStreamAt, listing};
-ghost use Rattle.rc_tables.specs.Streams.{DidAsk, IsReady, IsSomeStream, MayBe, SameTables, Settled, IsLazyOf, asks_left};
+ghost use Rattle.rc_tables.specs.Streams.{DidAsk, MayBeCalledOver, IsSomeStream, MayBe, SameTables, Settled, IsLazyOf, asks_left};
 
 use crate::reading::read_joined;
 use crate::sets::TableSet;
@@ -60,8 +60,8 @@ impl TableFrags {
     /// The head of the partition. The stream is as before. `StreamErr::Fault` when the store fails, `StreamErr::Damaged` where a
     /// file is not the table that is known, `StreamErr::NoMemory` when memory is refused.
     pub fn head<W: Store>(&mut self, alloc: Global, store: &mut W) -> Result<Head, StreamErr>
-        requires { IsReady (W.files store.old) self.old }
-        ensures ready { IsReady (W.files store.new) self.new }
+        requires { MayBeCalledOver (W.files store.old) self.old }
+        ensures ready { MayBeCalledOver (W.files store.new) self.new }
         ensures head { (s : Stream) → IsLazyOf (W.files store.old) self.old s → IfOk result (λ head. head ≡ s.head) }
         ensures some { IfOk result (λ head. (s : Stream) × Settled self.old self.new s s × (head ≡ s.head)) }
         ensures might { (s : Stream) → MayBe self.new s → MayBe self.old s }
@@ -70,7 +70,7 @@ impl TableFrags {
         ensures damaged { IfErr result (IsDamageOf self.old.schema self.old.key self.old.infos) }
         ensures cause { Caused result (W.files store.old) (W.faults store.old) (W.faults store.new) }
         ensures store { HoldsSameFiles W.files W.building store.old store.new }
-        ensures asks { DidAsk (answered result) self.old (W.asks store.old) self.new (W.asks store.new) }
+        ensures asks { DidAsk (has_answer result) self.old (W.asks store.old) self.new (W.asks store.new) }
     {
         match self.take_read(alloc, store) {
             Ok(read) => {
@@ -91,15 +91,15 @@ impl TableFrags {
         store: &mut W,
         to: &Pos,
     ) -> Result<(), StreamErr>
-        requires { IsReady (W.files store.old) self.old }
-        ensures ready { IsReady (W.files store.new) self.new }
-        ensures some { OnOk result ((s : Stream) × Settled self.old self.new s (sought to.now s)) }
+        requires { MayBeCalledOver (W.files store.old) self.old }
+        ensures ready { MayBeCalledOver (W.files store.new) self.new }
+        ensures some { OnOk result ((s : Stream) × Settled self.old self.new s (sought_stream to.now s)) }
         ensures stands { (s : Stream) → IsLazyOf (W.files store.old) self.old s → IsLazyOf (W.files store.new) self.new (sought_by result to.now s) }
         ensures tables { SameTables self.old self.new }
         ensures damaged { IfErr result (IsDamageOf self.old.schema self.old.key self.old.infos) }
         ensures cause { Caused result (W.files store.old) (W.faults store.old) (W.faults store.new) }
         ensures store { HoldsSameFiles W.files W.building store.old store.new }
-        ensures asks { DidAsk (answered result) self.old (W.asks store.old) self.new (W.asks store.new) }
+        ensures asks { DidAsk (has_answer result) self.old (W.asks store.old) self.new (W.asks store.new) }
     {
         match self.take_read(alloc, store) {
             Ok(mut list) => {
@@ -121,8 +121,8 @@ impl TableFrags {
         store: &mut W,
         upto: &Pos,
     ) -> Result<Option<Frag>, StreamErr>
-        requires { IsReady (W.files store.old) self.old }
-        ensures ready { IsReady (W.files store.new) self.new }
+        requires { MayBeCalledOver (W.files store.old) self.old }
+        ensures ready { MayBeCalledOver (W.files store.new) self.new }
         ensures gives { (s : Stream) → IsLazyOf (W.files store.old) self.old s → IfOk result (λ got. got ≡ first_upto upto.now s.left) }
         ensures upto { IfOk result (λ got. IfSome got (λ f. IsTrue (is_upto upto.now f))) }
         ensures some { IfOk result (λ got. (s : Stream) × Settled self.old self.new s (took got s) × (got ≡ first_upto upto.now s.left)) }
@@ -131,7 +131,7 @@ impl TableFrags {
         ensures damaged { IfErr result (IsDamageOf self.old.schema self.old.key self.old.infos) }
         ensures cause { Caused result (W.files store.old) (W.faults store.old) (W.faults store.new) }
         ensures store { HoldsSameFiles W.files W.building store.old store.new }
-        ensures asks { DidAsk (answered result) self.old (W.asks store.old) self.new (W.asks store.new) }
+        ensures asks { DidAsk (has_answer result) self.old (W.asks store.old) self.new (W.asks store.new) }
     {
         match self.take_read(alloc, store) {
             Ok(mut list) => {
@@ -146,7 +146,7 @@ impl TableFrags {
     // Takes out what was read of the partition, and reads it where it is not read yet; where it is not there to be given, the
     // stream is as it was.
     fn take_read<W: Store>(&mut self, alloc: Global, store: &mut W) -> Result<ListFrags, StreamErr>
-        requires { IsReady (W.files store.old) self.old }
+        requires { MayBeCalledOver (W.files store.old) self.old }
         ensures stands { (s : Stream) → IsLazyOf (W.files store.old) self.old s → IfOk result (λ list. s ≡ list) }
         ensures might { IfOk result (MayBe self.old) }
         ensures infos { self.new.infos ≡ self.old.infos }
@@ -168,9 +168,9 @@ impl TableFrags {
 
 impl<H, W: Store> Frags<H, W> for TableFrags {
     ghost use Rattle.std.specs.Prelude.{◌≡◌, ⊤};
-    ghost use Rattle.rc_tables.specs.Streams.{DidAsk, IsFresh, IsReady, MayBe, MayBlame, IsLazyOf};
+    ghost use Rattle.rc_tables.specs.Streams.{DidAsk, IsFresh, MayBeCalledOver, MayBe, MayBlame, IsLazyOf};
 
-    ghost ready = { λ t _ store. IsReady (W.files store) t };
+    ghost ready = { λ t _ store. MayBeCalledOver (W.files store) t };
 
     ghost seen = { λ t _ store s. IsLazyOf (W.files store) t s };
 

@@ -5,7 +5,7 @@ ghost use Rattle.rc_mutation.specs.declared.mutations.Partition.{Partition};
 ghost use Rattle.rc_outside.specs.Files.{HoldsSameFiles, LiesInFile, AreBytesOf};
 ghost use Rattle.rc_stream.specs.Causes.{Caused};
 ghost use Rattle.rc_tables.specs.calls.Rebuilt.{number_at_front};
-ghost use Rattle.rc_tables.specs.Located.{EndsAt, glimpsed, IsEntryAt, MayLie, SaysSpan, WhereTold};
+ghost use Rattle.rc_tables.specs.Located.{EndsAt, glimpse_length, IsEntryAt, MayLie, SaysSpan, WhereTold};
 ghost use Rattle.rc_tables.specs.calls.Located.{IsAtSpan, IsLocated, IsStreamHostError, IsSpan};
 
 use rc_outside::Store;
@@ -94,7 +94,7 @@ pub(crate) fn locate<W: Store>(
 
 // How many bytes are read of what the directory says of the first of these partitions.
 fn glimpse(refs: &[PartRef]) -> usize
-    ensures { result ≡ glimpsed refs.now }
+    ensures { result ≡ glimpse_length refs.now }
 {
     match refs {
         [] => 0,

@@ -8,7 +8,7 @@ ghost use Rattle.rc_ranges.specs.Cover.{IsCanonical, MayFollow};
 ghost use Rattle.rc_mutation.specs.declared.mutations.Mutation.{Mutation};
 ghost use Rattle.rc_mutation.specs.Rows.{IsRows, joined_rows};
 ghost use Rattle.rc_mutation.specs.Source.{IsMutation};
-ghost use Rattle.rc_tables.specs.calls.Rebuilt.{NoRowIsEmpty, open_range, changes_among, ended, pieces_between, rows_among};
+ghost use Rattle.rc_tables.specs.calls.Rebuilt.{NoRowIsEmpty, open_range, changes_among, ended_range, pieces_between, rows_among};
 ghost use Rattle.rc_mutation.specs.Fragments.{rows_and_changes};
 
 use rc_cell::Tomb;
@@ -132,7 +132,7 @@ fn end_piece(
     to: &Pos,
     made: &mut Vec<Piece>,
 ) -> Result<(), AllocError>
-    ensures { OnOk result (made.new.items ≡ made.old.items ++ ended start to.now) }
+    ensures { OnOk result (made.new.items ≡ made.old.items ++ ended_range start to.now) }
 {
     if let Some((from, tomb)) = start {
         let to = to.copy(alloc)?;

@@ -10,7 +10,7 @@ use Rattle.rc_tfile.specs.declared.checking.CheckErr.TheVariants.{Fault, Damaged
 use Rattle.rc_tfile.specs.declared.outline.Outline.{Outline}
 use Rattle.rc_tfile.specs.Items.{Item, HeadItem, PartItem, RowItem, ChangeItem, EndItem, StopItem, EntryItem, BlockItem, TailItem, item_code, IsItem}
 use Rattle.rc_tfile.specs.Before.{ItemsBefore, Start, Between, Inside, Behind, text, offset, item_place, followed_by}
-use Rattle.rc_tfile.specs.Blocks.{DirectoryEntry, entries, entry_items, ending, due}
+use Rattle.rc_tfile.specs.Blocks.{DirectoryEntry, entries, entry_items, ending, items_due}
 use Rattle.rc_tfile.specs.TableText.{ItemFits, AllFit, MayStand}
 use Rattle.rc_tfile.specs.calls.Outlined.{IsListed}
 use Rattle.rc_tfile.specs.Checking.{IsContent, IsHostError}
@@ -87,7 +87,7 @@ late_place (EntryItem key off blocks) before h = refl
 late_place (BlockItem b) before h = refl
 late_place (TailItem off parts) before h = refl
 
-late_due : (x : Item) (before : ItemsBefore) (more : List Item) → IsLate x → due before ≡ x ∷ more → due (x ∷ before) ≡ more
+late_due : (x : Item) (before : ItemsBefore) (more : List Item) → IsLate x → items_due before ≡ x ∷ more → items_due (x ∷ before) ≡ more
 late_due (HeadItem schema) before more h e = absurd h
 late_due (PartItem key pt statics) before more h e = absurd h
 late_due (RowItem key row) before more h e = absurd h
@@ -98,7 +98,7 @@ late_due (EntryItem key off blocks) before more h e = ap (drop 1) e
 late_due (BlockItem b) before more h e = ap (drop 1) e
 late_due (TailItem off parts) before more h e = ap (drop 1) e
 
-late_stands : (schema : SchemaValue) (x : Item) (before : ItemsBefore) → IsLate x → ((more : List Item) × (due before ≡ x ∷ more)) → MayStand schema before x
+late_stands : (schema : SchemaValue) (x : Item) (before : ItemsBefore) → IsLate x → ((more : List Item) × (items_due before ≡ x ∷ more)) → MayStand schema before x
 late_stands schema (HeadItem other) before h d = absurd h
 late_stands schema (PartItem key pt statics) before h d = absurd h
 late_stands schema (RowItem key row) before h d = absurd h
@@ -119,7 +119,7 @@ inside_no_behind : Inside ≡ Behind → ⊥
 inside_no_behind e = absurd cc
 
 -- behind the stop, only what is due fits
-only_due : (schema : SchemaValue) (before : ItemsBefore) (x : Item) → item_place before ≡ Behind → ItemFits schema before x → (more : List Item) × (due before ≡ x ∷ more)
+only_due : (schema : SchemaValue) (before : ItemsBefore) (x : Item) → item_place before ≡ Behind → ItemFits schema before x → (more : List Item) × (items_due before ≡ x ∷ more)
 only_due schema before (HeadItem other) p f = absurd (start_no_behind (sym (ap item_place f.1.0) ∙ p))
 only_due schema before (PartItem key pt statics) p f = absurd (between_no_behind (sym f.1.0 ∙ p))
 only_due schema before (RowItem key row) p f = absurd (inside_no_behind (sym f.1.0 ∙ p))
@@ -189,7 +189,7 @@ came f g schema start x more w v late is a told =
     let next : followed_by start (a.done ++ x ∷ []) ≡ x ∷ before = followed_by-append start a.done (x ∷ []) in record {
       done = a.done ++ x ∷ [];
       whole = a.whole ∙ sym (append_assoc a.done (x ∷ []) more);
-      next = subst (λ b. due b ≡ more) (sym next) (late_due x before more late a.next);
+      next = subst (λ b. items_due b ≡ more) (sym next) (late_due x before more late a.next);
       behind = subst (λ b. item_place b ≡ Behind) (sym next) (late_place x before late);
       ended = subst (λ b. EndsWithTail b → more ≡ []) (sym next) (late_ended start a.done x more before late a.whole);
       fit = subst (λ b. AllFit schema b) (sym next) (a.fit, (is, late_stands schema x before late (more, a.next)));

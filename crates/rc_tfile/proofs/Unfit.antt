@@ -9,12 +9,12 @@ use Rattle.rc_schema.specs.SchemaValue.{SchemaValue}
 use Rattle.rc_rowcode.specs.Spelling.{optional_code, tomb_code, key_code, pos_code, row_code, IsKey, IsPos, IsCodedRow}
 use Rattle.rc_tfile.specs.Items.{Item, HeadItem, PartItem, RowItem, ChangeItem, EndItem, StopItem, EntryItem, BlockItem, TailItem, item_code, IsItem, bytes_code, IsPartKey}
 use Rattle.rc_tfile.specs.Before.{ItemsBefore, Start, Between, Inside, Behind, item_place, tomb_in_force}
-use Rattle.rc_tfile.specs.Blocks.{due}
+use Rattle.rc_tfile.specs.Blocks.{items_due}
 use Rattle.rc_tfile.specs.TableText.{ItemFits}
 use Rattle.rc_tfile.specs.laws.Starting.{PrefixFree, IsOptional, rest_of, both_free, key_free, full_key_free, pos_free, row_free, optional_free}
 
 -- nothing is due before the stop
-due_none : (before : ItemsBefore) → (item_place before ≡ Behind → ⊥) → due before ≡ []
+due_none : (before : ItemsBefore) → (item_place before ≡ Behind → ⊥) → items_due before ≡ []
 due_none [] h = refl
 due_none (HeadItem schema ∷ before) h = refl
 due_none (PartItem key pt statics ∷ before) h = refl
@@ -26,7 +26,7 @@ due_none (EntryItem key off blocks ∷ before) h = absurd (h refl)
 due_none (BlockItem b ∷ before) h = absurd (h refl)
 due_none (TailItem off parts ∷ before) h = absurd (h refl)
 
-pub not_due : (before : ItemsBefore) (x : Item) → (item_place before ≡ Behind → ⊥) → ((more : List Item) × (due before ≡ x ∷ more)) → ⊥
+pub not_due : (before : ItemsBefore) (x : Item) → (item_place before ≡ Behind → ⊥) → ((more : List Item) × (items_due before ≡ x ∷ more)) → ⊥
 not_due before x h d = (let q : [] ≡ x ∷ d.0 = sym (due_none before h) ∙ d.1 in absurd cc)
 
 pub between_no_start : Start ≡ Between → ⊥

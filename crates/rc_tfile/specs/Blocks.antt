@@ -49,9 +49,9 @@ abbrev pub ending : ItemsBefore → List Item
 ending before = flat_map entry_items (entries before) ++ TailItem (offset before) (length (entries before)) ∷ []
 
 -- the items that must still come, behind the stop
-abbrev pub due : ItemsBefore → List Item
-due (StopItem ∷ before) = ending (StopItem ∷ before)
-due (EntryItem key off blocks ∷ before) = drop 1 (due before)
-due (BlockItem b ∷ before) = drop 1 (due before)
-due (TailItem off parts ∷ before) = drop 1 (due before)
-due before = []
+abbrev pub items_due : ItemsBefore → List Item
+items_due (StopItem ∷ before) = ending (StopItem ∷ before)
+items_due (EntryItem key off blocks ∷ before) = drop 1 (items_due before)
+items_due (BlockItem b ∷ before) = drop 1 (items_due before)
+items_due (TailItem off parts ∷ before) = drop 1 (items_due before)
+items_due before = []

@@ -19,7 +19,7 @@ use Rattle.rc_mutation.specs.Fragments.{fragments}
 use Rattle.rc_writes.specs.Allowed.{IsStaticOf, IsRowOf, IsRangeBound, ChangeFits}
 use Rattle.rc_tfile.specs.Items.{Item, HeadItem, PartItem, RowItem, ChangeItem, EndItem, StopItem, TailItem, item_code, IsItem}
 use Rattle.rc_tfile.specs.Before.{ItemsBefore, text, offset, followed_by, Between, Inside, item_place, last_part, last_pos, tomb_in_force}
-use Rattle.rc_tfile.specs.Blocks.{ending, due}
+use Rattle.rc_tfile.specs.Blocks.{ending, items_due}
 
 -- an item may stand behind others: keys and positions strictly ascend, and behind the stop it is the next of those that must come
 abbrev pub MayStand : SchemaValue → ItemsBefore → Item → Type 0
@@ -29,7 +29,7 @@ MayStand schema before (RowItem key row) = (item_place before ≡ Inside) × Com
 MayStand schema before (ChangeItem x tomb) = (item_place before ≡ Inside) × ComesNext (last_pos before) x × IsRangeBound schema x × (tomb ≢ tomb_in_force before)
 MayStand schema before EndItem = (item_place before ≡ Inside) × (tomb_in_force before ≡ None)
 MayStand schema before StopItem = item_place before ≡ Between
-MayStand schema before x = (more : List Item) × (due before ≡ x ∷ more)
+MayStand schema before x = (more : List Item) × (items_due before ≡ x ∷ more)
 
 -- an item fits where it stands
 abbrev pub ItemFits : SchemaValue → ItemsBefore → Item → Type 0

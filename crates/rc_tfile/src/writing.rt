@@ -3,7 +3,7 @@
 ghost use Rattle.std.specs.Prelude.{◌≡◌, ◌++◌, [], ◌∷◌, IfOk, OnOk, MatchResult, IsSome, None, length, All};
 ghost use Rattle.std.specs.List.{flat_map, AllByRecursion};
 ghost use Rattle.rc_position.specs.Position.{row_pos};
-ghost use Rattle.rc_outside.specs.Files.{IsNoFile, grown};
+ghost use Rattle.rc_outside.specs.Files.{IsNoFile, grown_draft};
 ghost use Rattle.rc_rowcode.specs.Spelling.{KeyFits, RowFits};
 ghost use Rattle.rc_writes.specs.Limits.{IsWithinLimits};
 ghost use Rattle.rc_tfile.specs.Items.{item_code, HeadItem, RowItem, ChangeItem, StopItem, TailItem, IsItem};
@@ -184,7 +184,7 @@ fn append<W: Store>(alloc: Global, store: &mut W, piece: &[u8]) -> Result<(), Wr
     ensures files { W.files store.new ≡ W.files store.old }
     ensures asks { W.asks store.new ≡ W.asks store.old }
     ensures faults { RisesIfFault OnWriteFault result (W.faults store.old) (W.faults store.new) }
-    ensures building { OnOk result (W.building store.new ≡ grown (W.building store.old) piece.now) }
+    ensures building { OnOk result (W.building store.new ≡ grown_draft (W.building store.old) piece.now) }
 {
     match store.append(alloc, piece) {
         Ok(()) => Ok(()),
@@ -198,7 +198,7 @@ fn write_head<W: Store>(alloc: Global, schema: &Schema, store: &mut W) -> Result
     ensures files { W.files store.new ≡ W.files store.old }
     ensures asks { W.asks store.new ≡ W.asks store.old }
     ensures faults { RisesIfFault OnWriteFault result (W.faults store.old) (W.faults store.new) }
-    ensures building { OnOk result (W.building store.new ≡ grown (W.building store.old) (item_code (HeadItem schema.now))) }
+    ensures building { OnOk result (W.building store.new ≡ grown_draft (W.building store.old) (item_code (HeadItem schema.now))) }
     ensures outline { IfOk result (λ outline. IsOutline (HeadItem schema.now ∷ []) outline) }
     ensures item { IfOk result (λ _. IsItem (HeadItem schema.now)) }
 {
@@ -225,7 +225,7 @@ fn write_part<W: Store>(
     ensures files { W.files store.new ≡ W.files store.old }
     ensures asks { W.asks store.new ≡ W.asks store.old }
     ensures faults { RisesIfFault OnWriteFault result (W.faults store.old) (W.faults store.new) }
-    ensures building { OnOk result (W.building store.new ≡ grown (W.building store.old) (flat_map item_code (part_items part.now))) }
+    ensures building { OnOk result (W.building store.new ≡ grown_draft (W.building store.old) (flat_map item_code (part_items part.now))) }
     ensures items { OnOk result (AllByRecursion IsItem (part_items part.now)) }
     ensures outline { (before : ItemsBefore) → IsOutline before outline.old → OnOk result (IsOutline (followed_by before (part_items part.now)) outline.new) }
 {
@@ -248,7 +248,7 @@ fn write_parts<W: Store>(
     ensures files { W.files store.new ≡ W.files store.old }
     ensures asks { W.asks store.new ≡ W.asks store.old }
     ensures faults { RisesIfFault OnWriteFault result (W.faults store.old) (W.faults store.new) }
-    ensures building { OnOk result (W.building store.new ≡ grown (W.building store.old) (flat_map item_code (flat_map part_items parts.now))) }
+    ensures building { OnOk result (W.building store.new ≡ grown_draft (W.building store.old) (flat_map item_code (flat_map part_items parts.now))) }
     ensures items { OnOk result (AllByRecursion IsItem (flat_map part_items parts.now)) }
     ensures outline { (before : ItemsBefore) → IsOutline before outline.old → OnOk result (IsOutline (followed_by before (flat_map part_items parts.now)) outline.new) }
 {
@@ -264,7 +264,7 @@ fn write_entry<W: Store>(alloc: Global, listed: &Listed, store: &mut W) -> Resul
     ensures files { W.files store.new ≡ W.files store.old }
     ensures asks { W.asks store.new ≡ W.asks store.old }
     ensures faults { RisesIfFault OnWriteFault result (W.faults store.old) (W.faults store.new) }
-    ensures building { OnOk result (W.building store.new ≡ grown (W.building store.old) (flat_map item_code (entry_items listed.now))) }
+    ensures building { OnOk result (W.building store.new ≡ grown_draft (W.building store.old) (flat_map item_code (entry_items listed.now))) }
     ensures items { OnOk result (AllByRecursion IsItem (entry_items listed.now)) }
 {
     let mut out = Vec::new(alloc);
@@ -280,7 +280,7 @@ fn write_entries<W: Store>(alloc: Global, entries: &[Listed], store: &mut W) -> 
     ensures files { W.files store.new ≡ W.files store.old }
     ensures asks { W.asks store.new ≡ W.asks store.old }
     ensures faults { RisesIfFault OnWriteFault result (W.faults store.old) (W.faults store.new) }
-    ensures building { OnOk result (W.building store.new ≡ grown (W.building store.old) (flat_map item_code (flat_map entry_items entries.now))) }
+    ensures building { OnOk result (W.building store.new ≡ grown_draft (W.building store.old) (flat_map item_code (flat_map entry_items entries.now))) }
     ensures items { OnOk result (AllByRecursion IsItem (flat_map entry_items entries.now)) }
 {
     for listed in entries {
@@ -295,7 +295,7 @@ fn write_tail<W: Store>(alloc: Global, outline: &Outline, store: &mut W) -> Resu
     ensures files { W.files store.new ≡ W.files store.old }
     ensures asks { W.asks store.new ≡ W.asks store.old }
     ensures faults { RisesIfFault OnWriteFault result (W.faults store.old) (W.faults store.new) }
-    ensures building { OnOk result (W.building store.new ≡ grown (W.building store.old) (item_code (TailItem outline.now.off (length outline.now.listed.items)))) }
+    ensures building { OnOk result (W.building store.new ≡ grown_draft (W.building store.old) (item_code (TailItem outline.now.off (length outline.now.listed.items)))) }
     ensures item { OnOk result (IsItem (TailItem outline.now.off (length outline.now.listed.items))) }
 {
     match tail_of(alloc, outline.off, outline.listed.len()) {
@@ -311,7 +311,7 @@ fn write_listed<W: Store>(alloc: Global, outline: &Outline, store: &mut W) -> Re
     ensures asks { W.asks store.new ≡ W.asks store.old }
     ensures faults { RisesIfFault OnWriteFault result (W.faults store.old) (W.faults store.new) }
     ensures building { (before : ItemsBefore) → IsListed before outline.now →
-        OnOk result (W.building store.new ≡ grown (W.building store.old) (flat_map item_code (StopItem ∷ ending before))) }
+        OnOk result (W.building store.new ≡ grown_draft (W.building store.old) (flat_map item_code (StopItem ∷ ending before))) }
     ensures items { (before : ItemsBefore) → IsListed before outline.now → OnOk result (AllByRecursion IsItem (ending before)) }
 {
     append(alloc, store, &[STOP])?;
@@ -330,7 +330,7 @@ fn write_ending<W: Store>(
     ensures asks { W.asks store.new ≡ W.asks store.old }
     ensures faults { RisesIfFault OnWriteFault result (W.faults store.old) (W.faults store.new) }
     ensures building { (before : ItemsBefore) → IsOutline before outline.old →
-        OnOk result (W.building store.new ≡ grown (W.building store.old) (flat_map item_code (StopItem ∷ ending (StopItem ∷ before)))) }
+        OnOk result (W.building store.new ≡ grown_draft (W.building store.old) (flat_map item_code (StopItem ∷ ending (StopItem ∷ before)))) }
     ensures items { (before : ItemsBefore) → IsOutline before outline.old → OnOk result (AllByRecursion IsItem (ending (StopItem ∷ before))) }
 {
     match outline.stop() {
@@ -351,7 +351,7 @@ fn write_items<W: Store>(
     ensures files { W.files store.new ≡ W.files store.old }
     ensures asks { W.asks store.new ≡ W.asks store.old }
     ensures faults { RisesIfFault OnWriteFault result (W.faults store.old) (W.faults store.new) }
-    ensures building { OnOk result (W.building store.new ≡ grown (W.building store.old) (text (whole_table schema.now parts.now))) }
+    ensures building { OnOk result (W.building store.new ≡ grown_draft (W.building store.old) (text (whole_table schema.now parts.now))) }
     ensures items { OnOk result (AllByRecursion IsItem (whole_table schema.now parts.now)) }
 {
     let _limits = schema.ck();

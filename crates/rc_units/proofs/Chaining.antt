@@ -22,12 +22,12 @@ use Rattle.rc_core.specs.laws.Losing.{each-one}
 use Rattle.rc_core.specs.laws.Standing.{NewestIs-back, Stand, above-zero, length-cons, stand-at}
 use Rattle.rc_core.specs.laws.Updates.{begun-chain, begun-form, given-chain, more-says, same-form}
 use Rattle.rc_core.specs.laws.Updates as core
-use Rattle.rc_units.specs.Update.{IsFragmentOf, lost_from, unit_place, updated}
+use Rattle.rc_units.specs.Update.{IsFragmentOf, lost_from, unit_place, updated_version}
 use Rattle.rc_units.proofs.Cuts.{precedes-le, updated-version}
 use Rattle.rc_units.proofs.Losses.{lost-is, lost-phase, lost_from-version}
 use Rattle.rc_units.proofs.Updates.{unit-is}
 
-pub updated-phase : (force : Option Tomb) (f : Frag) (next : Place) (v : Version) → (updated force f next v).phase ≡ v.phase
+pub updated-phase : (force : Option Tomb) (f : Frag) (next : Place) (v : Version) → (updated_version force f next v).phase ≡ v.phase
 updated-phase force (frag.Start pt) next v = refl
 updated-phase force (frag.Static row) next v = refl
 updated-phase force (frag.Row key row) next v = refl
@@ -52,7 +52,7 @@ module _ (below : ℕ → List Mutation) (c : Chain) (older : List Version) (v :
 module _ (below : ℕ → List Mutation) (change : Mutation) (c : Chain) (front : List Version) (under v : Version) (vs : c.versions ≡ front ++ under ∷ v ∷ []) (ch : IsChain c)
     (force : Option Tomb) (f : Frag) (next : Place) (up : c.updating ≡ Some (unit_place f)) (st : IsFragmentOf change force f next) where
   abbrev unit : Version
-  unit = updated force f next v
+  unit = updated_version force f next v
 
   parts : c.versions ≡ (front ++ under ∷ []) ++ v ∷ []
   parts = vs ∙ sym (append_assoc front (under ∷ []) (v ∷ []))
@@ -101,7 +101,7 @@ module _ (below : ℕ → List Mutation) (change : Mutation) (c : Chain) (front 
 
   module _ (pt : Option Tomb) (next : Place) (st : IsFragmentOf change None (frag.Start pt) next) where
     abbrev unit_begun : Chain
-    unit_begun = with_updating (Some next) (with_versions (front ++ under ∷ updated None (frag.Start pt) next (new_version None phase) ∷ []) c)
+    unit_begun = with_updating (Some next) (with_versions (front ++ under ∷ updated_version None (frag.Start pt) next (new_version None phase) ∷ []) c)
 
     pub begin-chain : IsChainContinuous below unit_begun
     begin-chain = unit-chain below change begun front under (new_version None phase) begun_versions begun_form None (frag.Start pt) next refl st att src begun_continuous

@@ -11,14 +11,14 @@ use Rattle.rc_core.specs.declared.entries.Entry.{Entry}
 use Rattle.rc_core.specs.declared.entries.ChainKind.TheVariants.{Cache}
 use Rattle.rc_core.specs.Version.{Behind, EndsWithDummy, IsVersion, On, Version}
 use Rattle.rc_core.specs.SpotState.{SpotState, through}
-use Rattle.rc_core.specs.Chain.{IsKnown, states_at, content, flag_over, flagged}
+use Rattle.rc_core.specs.Chain.{IsKnown, states_at, content, flag_over, has_flag}
 use Rattle.rc_core.specs.Chains.{Chain, IsChainContinuous, IsMemtableChain, IsNeeded, IsPinned, IsUpdating, NewestIs, phase_at, upto, with_versions}
 use Rattle.rc_core.specs.AtPlace.{IsAtPlace}
 use Rattle.rc_core.specs.Change.{lose_first_gap}
 use Rattle.rc_core.specs.Continuity.{IsEvicted, static_states, with_entries, without_statics}
 use Rattle.rc_core.specs.Merge.{Alike, IsMerged, IsSeenAlike, IsSilent}
 use Rattle.rc_core.specs.StandsFor.{StandsFor}
-use Rattle.rc_core.specs.Steps.{IsCarriedIn, IsChain, drop_version, pin_at, renumbered}
+use Rattle.rc_core.specs.Steps.{IsCarriedIn, IsChain, drop_version, number_after_removal, pin_at}
 use Rattle.rc_core.specs.laws.Carrying.{dropped-carried, merged-carried}
 use Rattle.rc_core.specs.laws.Folding.{content-through, flagged-through}
 use Rattle.rc_core.specs.laws.Freeing.{replaced-form}
@@ -31,7 +31,7 @@ use Rattle.rc_core.specs.laws.Pins.{pin-renumbered}
 use Rattle.rc_core.specs.laws.Standing.{NewestIs-back, Stand, above, above-is, above-zero, length-cons, older_or_from, stand, stand-from, stand-older}
 use Rattle.rc_core.specs.laws.Written.{alike-stands}
 use Rattle.rc_units.specs.Chained.{IsKnownAsBefore, chain_left, number_left, pins_left}
-use Rattle.rc_units.specs.Clean.{MayMerge, cache_cleaned_by, cleaned, cleaned_by, cleaned_without_room, emptied, end_merged, entry_cleaned, gap_said, merge_entry, statics_onto, statics_said}
+use Rattle.rc_units.specs.Clean.{MayMerge, cache_cleaned_by, cleaned_by, cleaned_versions, cleaned_without_room, emptied_version, end_merged, entry_cleaned, gap_said, merge_entry, statics_onto, statics_said}
 use Rattle.rc_units.proofs.Cleaning.{emptied-silent, end-merged, entry-merged, statics-merged}
 use Rattle.rc_units.proofs.Under.{pt_known}
 use Rattle.rc_units.proofs.Units.{alike-again, alike-both, first-evicted, first_before, last_is_dummy, no_entries}
@@ -41,7 +41,7 @@ use Rattle.rc_units.proofs.Versions.{end_merged-version, gap_said-version, lost-
 pub unneeded : (c : Chain) (j : ℕ) → MayMerge c j → IsNeeded c j → ⊥
 unneeded c j may need = ⊎_elim may.unpinned (λ h. ⊎_elim (λ a. omega (arith, a.1, may.older)) (λ u. may.settled u.0 u.1) h) need
 
-emptied-version : (e : Entry) (v : Version) → v.entries ≡ e ∷ [] → IsVersion v → IsVersion (emptied e v)
+emptied-version : (e : Entry) (v : Version) → v.entries ≡ e ∷ [] → IsVersion v → IsVersion (emptied_version e v)
 emptied-version e v h i = record { ascend = tt; ends = ((subst EndsWithDummy h i.ends).0, refl) }
 
 statics_said-version : (v : Version) → IsVersion v → IsVersion (statics_said v)
@@ -55,7 +55,7 @@ statics_onto-version v w i = record { ascend = i.ascend; ends = i.ends }
 module _ (P : Chain → (ℕ → ℕ) → Type 0)
     (merged : (c : Chain) (front back : List Version) (a b x y : Version) (f : ℕ → ℕ) → c.versions ≡ front ++ a ∷ b ∷ back → (IsNeeded c (length front) → ⊥) → IsMerged a b x y → x.phase ≡ a.phase → y.phase ≡ b.phase → IsVersion x → IsVersion y → P c f → P (with_versions (front ++ x ∷ y ∷ back) c) f)
     (dropped : (c : Chain) (front back : List Version) (v w : Version) (f : ℕ → ℕ) → c.versions ≡ front ++ v ∷ w ∷ back → (IsNeeded c (length front) → ⊥) → IsSilent v →
-    greatest tomb_cmp (option_to_list v.pt ++ option_to_list w.pt) ≡ greatest tomb_cmp (option_to_list w.pt) → P c f → P (drop_version (length front) c) (λ j. renumbered (length front) (f j)))
+    greatest tomb_cmp (option_to_list v.pt ++ option_to_list w.pt) ≡ greatest tomb_cmp (option_to_list w.pt) → P c f → P (drop_version (length front) c) (λ j. number_after_removal (length front) (f j)))
     (front back : List Version) (f : ℕ → ℕ) where
   -- what a unit makes of a chain, with the numbers that versions have then
   abbrev Left : List Version → Chain → Type 0
@@ -67,12 +67,12 @@ module _ (P : Chain → (ℕ → ℕ) → Type 0)
   -- the end dummy merged, and the version dropped
   end_step : (c : Chain) (v w : Version) (e : Entry) → c.versions ≡ front ++ v ∷ w ∷ back → (IsNeeded c (length front) → ⊥) → v.entries ≡ e ∷ [] → IsVersion v → IsVersion w → P c f → Left (end_merged e v w ∷ []) c
   end_step c v w e vs off h i j p =
-      subst (λ us. P (record { kind = c.kind; versions = us; attached = c.attached; updating = c.updating; pins = list_map (option_map (renumbered (length front))) c.pins }) (λ k. renumbered (length front) (f k)))
-      (all_but-parts front (end_merged e v w ∷ back) (emptied e v))
-      (dropped (with_versions (front ++ emptied e v ∷ end_merged e v w ∷ back) c) front back (emptied e v) (end_merged e v w) f refl
-      (still_off c v w (emptied e v) (end_merged e v w) vs off)
+      subst (λ us. P (record { kind = c.kind; versions = us; attached = c.attached; updating = c.updating; pins = list_map (option_map (number_after_removal (length front))) c.pins }) (λ k. number_after_removal (length front) (f k)))
+      (all_but-parts front (end_merged e v w ∷ back) (emptied_version e v))
+      (dropped (with_versions (front ++ emptied_version e v ∷ end_merged e v w ∷ back) c) front back (emptied_version e v) (end_merged e v w) f refl
+      (still_off c v w (emptied_version e v) (end_merged e v w) vs off)
       (emptied-silent e v) (pt_known v.pt w.pt)
-      (merged c front back v w (emptied e v) (end_merged e v w) f vs off (end-merged v w e h i j) refl refl (emptied-version e v h i) (end_merged-version e v w (last_is_dummy v e h i) j) p))
+      (merged c front back v w (emptied_version e v) (end_merged e v w) f vs off (end-merged v w e h i j) refl refl (emptied-version e v h i) (end_merged-version e v w (last_is_dummy v e h i) j) p))
 
   module _ (c : Chain) (v w : Version) (vs : c.versions ≡ front ++ v ∷ w ∷ back) (off : IsNeeded c (length front) → ⊥) (i : IsVersion v) (j : IsVersion w) (p : P c f) where
     entry_step : (e n : Entry) (more : List Entry) → v.entries ≡ e ∷ n ∷ more → Left (entry_cleaned e n more v w) c
@@ -96,7 +96,7 @@ module _ (P : Chain → (ℕ → ℕ) → Type 0)
     statics_step (Some row) = merged c front back v w (statics_said v) (statics_onto v w) f vs off (statics-merged v w) refl refl (statics_said-version v i) (statics_onto-version v w j) p
     statics_step None = entries_step v.entries refl
 
-    pub cleaned-keeps : Left (cleaned v w) c
+    pub cleaned-keeps : Left (cleaned_versions v w) c
     cleaned-keeps = statics_step v.statics
 
     -- without room, where besides an eviction keeps it
@@ -122,7 +122,7 @@ module _ (c : Chain) (front back : List Version) (v w : Version) (vs : c.version
   newest_stays : (P : Version → Type 0) (x : Version) → NewestIs P (front ++ v ∷ w ∷ back) → NewestIs P (front ++ x ∷ w ∷ back)
   newest_stays P x h = subst (λ (T : Type 0). T) (NewestIs-back P front v (w ∷ back) ∙ sym (NewestIs-back P front x (w ∷ back))) h
 
-  pub cleaned-chain : (below : ℕ → List Mutation) → IsChainContinuous below c → IsChainContinuous below (chain_left front (cleaned v w) back c)
+  pub cleaned-chain : (below : ℕ → List Mutation) → IsChainContinuous below c → IsChainContinuous below (chain_left front (cleaned_versions v w) back c)
   cleaned-chain below k = cleaned-keeps (λ d _. IsChainContinuous below d)
       (λ d fs bs a b x y _ es o m px py _ _ q. merged-whole below d fs bs a b x y es o m px py q)
       (λ d fs bs a b _ es o s t q. dropped-whole below d fs bs a b es o s t q)
@@ -135,7 +135,7 @@ module _ (c : Chain) (front back : List Version) (v w : Version) (vs : c.version
       front back (λ n. n) c v w vs off i j k
       (λ x lost same _. evicted-chain below c front (w ∷ back) v x vs lost same (λ p e. newest_stays (IsAtPlace p) x (subst (NewestIs (IsAtPlace p)) vs (k.ahead p e))) k)
 
-  pub cleaned-form : IsChain c → IsChain (chain_left front (cleaned v w) back c)
+  pub cleaned-form : IsChain c → IsChain (chain_left front (cleaned_versions v w) back c)
   cleaned-form k = cleaned-keeps (λ d _. IsChain d)
       (λ d fs bs a b x y _ es o m _ _ ix iy q. merged-form d fs bs a b x y es ix iy q)
       (λ d fs bs a b _ es o s t q. dropped-form d fs bs a b es o q)
@@ -148,19 +148,19 @@ module _ (c : Chain) (front back : List Version) (v w : Version) (vs : c.version
       front back (λ n. n) c v w vs off i j k
       (λ x lost same ix. replaced-form c front (w ∷ back) v x vs ix k)
 
-  pub cleaned-carried : (x : Pos) → IsCarriedIn c x → IsCarriedIn (chain_left front (cleaned v w) back c) x
+  pub cleaned-carried : (x : Pos) → IsCarriedIn c x → IsCarriedIn (chain_left front (cleaned_versions v w) back c) x
   cleaned-carried x k = cleaned-keeps (λ d _. IsCarriedIn d x)
       (λ d fs bs a b xx y _ es o m _ _ _ _ q. merged-carried d fs bs a b xx y x es o m q)
       (λ d fs bs a b _ es o s t q. dropped-carried d fs bs a b x es o s t q)
       front back (λ n. n) c v w vs off i j k
 
-  pub cleaned-memtable : IsMemtableChain c → IsMemtableChain (chain_left front (cleaned v w) back c)
+  pub cleaned-memtable : IsMemtableChain c → IsMemtableChain (chain_left front (cleaned_versions v w) back c)
   cleaned-memtable k = cleaned-keeps (λ d _. IsMemtableChain d)
       (λ d fs bs a b x y _ es o m _ _ _ _ q. merged-memtable d fs bs a b x y es o m q)
       (λ d fs bs a b _ es o s t q. dropped-memtable d fs bs a b es o s t q)
       front back (λ n. n) c v w vs off i j k
 
-  pub cleaned-stands : (writes : List Mutation) → StandsFor writes c.versions → StandsFor writes (chain_left front (cleaned v w) back c).versions
+  pub cleaned-stands : (writes : List Mutation) → StandsFor writes c.versions → StandsFor writes (chain_left front (cleaned_versions v w) back c).versions
   cleaned-stands writes k = cleaned-keeps (λ d _. StandsFor writes d.versions)
       (λ d fs bs a b x y _ es o m _ _ _ _ q. alike-stands writes (fs ++ a ∷ b ∷ bs) (fs ++ x ∷ y ∷ bs) (merged-seen fs bs a b x y m) (subst (StandsFor writes) es q))
       (λ d fs bs a b _ es o s t q. subst (StandsFor writes) (sym (ap (λ us. (drop_version (length fs) (with_versions us d)).versions) es ∙ all_but-parts fs (b ∷ bs) a))
@@ -169,17 +169,17 @@ module _ (c : Chain) (front back : List Version) (v w : Version) (vs : c.version
 
 -- ---- what is seen at each version that is needed
 
-pub pinned_by : (n k : ℕ) (pins : List (Option ℕ)) → IsPinned pins k → IsPinned (list_map (option_map (renumbered n)) pins) (renumbered n k)
+pub pinned_by : (n k : ℕ) (pins : List (Option ℕ)) → IsPinned pins k → IsPinned (list_map (option_map (number_after_removal n)) pins) (number_after_removal n k)
 pinned_by n k [] h = h
-pinned_by n k (p ∷ ps) h = ⊎_elim (λ e. inl (ap (option_map (renumbered n)) e)) (λ r. inr (pinned_by n k ps r)) h
+pinned_by n k (p ∷ ps) h = ⊎_elim (λ e. inl (ap (option_map (number_after_removal n)) e)) (λ r. inr (pinned_by n k ps r)) h
 
 -- a version above the dropped one has its number less by one
-above_dropped : (n k : ℕ) → n < k → suc (renumbered n k) ≡ k
+above_dropped : (n k : ℕ) → n < k → suc (number_after_removal n k) ≡ k
 above_dropped n zero l = absurd (omega (arith, l))
 above_dropped zero (suc k) l = refl
 above_dropped (suc n) (suc k) l = ap suc (above_dropped n k (omega (arith, l)))
 
-dropped-needed : (c : Chain) (front back : List Version) (v w : Version) (k : ℕ) → c.versions ≡ front ++ v ∷ w ∷ back → (IsNeeded c (length front) → ⊥) → IsNeeded c k → IsNeeded (drop_version (length front) c) (renumbered (length front) k)
+dropped-needed : (c : Chain) (front back : List Version) (v w : Version) (k : ℕ) → c.versions ≡ front ++ v ∷ w ∷ back → (IsNeeded c (length front) → ⊥) → IsNeeded c k → IsNeeded (drop_version (length front) c) (number_after_removal (length front) k)
 dropped-needed c front back v w k vs off need = ⊎_elim
     (λ p. inl (pinned_by (length front) k c.pins p))
     (λ h. inr (⊎_elim
@@ -217,25 +217,25 @@ sees-merged before c front back a b x y f vs off m s = record {
 }
 
 sees-dropped : (before c : Chain) (front back : List Version) (v w : Version) (f : ℕ → ℕ) → c.versions ≡ front ++ v ∷ w ∷ back → (IsNeeded c (length front) → ⊥) → IsSilent v →
-    greatest tomb_cmp (option_to_list v.pt ++ option_to_list w.pt) ≡ greatest tomb_cmp (option_to_list w.pt) → Sees before c f → Sees before (drop_version (length front) c) (λ k. renumbered (length front) (f k))
+    greatest tomb_cmp (option_to_list v.pt ++ option_to_list w.pt) ≡ greatest tomb_cmp (option_to_list w.pt) → Sees before c f → Sees before (drop_version (length front) c) (λ k. number_after_removal (length front) (f k))
 sees-dropped before c front back v w f vs off h t s = record {
   needed = λ k need. dropped-needed c front back v w (f k) vs off (s.needed k need);
-  seen = λ k need. alike-both (upto before.versions k) (upto c.versions (f k)) (upto (drop_version (length front) c).versions (renumbered (length front) (f k))) (s.seen k need)
+  seen = λ k need. alike-both (upto before.versions k) (upto c.versions (f k)) (upto (drop_version (length front) c).versions (number_after_removal (length front) (f k))) (s.seen k need)
       (dropped-seen-each c front back v w vs off h t (f k) (s.needed k need));
 }
 
 module _ (c : Chain) (front back : List Version) (v w : Version) (vs : c.versions ≡ front ++ v ∷ w ∷ back) (may : MayMerge c (length front)) (i : IsVersion v) (j : IsVersion w) where
-  sees : Sees c (chain_left front (cleaned v w) back c) (λ k. number_left (cleaned v w) (length front) k)
+  sees : Sees c (chain_left front (cleaned_versions v w) back c) (λ k. number_left (cleaned_versions v w) (length front) k)
   sees = cleaned-keeps (λ d f. Sees c d f)
       (λ d fs bs a b x y f es o m _ _ _ _ q. sees-merged c d fs bs a b x y f es o m q)
       (λ d fs bs a b f es o s t q. sees-dropped c d fs bs a b f es o s t q)
       front back (λ n. n) c v w vs (unneeded c (length front) may) i j
       (record { needed = λ _ need. need; seen = λ k _. alike-again (upto c.versions k) })
 
-  pub cleaned-seen : (k : ℕ) → IsNeeded c k → IsSeenAlike (upto c.versions k) (upto (chain_left front (cleaned v w) back c).versions (number_left (cleaned v w) (length front) k))
+  pub cleaned-seen : (k : ℕ) → IsNeeded c k → IsSeenAlike (upto c.versions k) (upto (chain_left front (cleaned_versions v w) back c).versions (number_left (cleaned_versions v w) (length front) k))
   cleaned-seen = sees.seen
 
-  pub cleaned-needed : (k : ℕ) → IsNeeded c k → IsNeeded (chain_left front (cleaned v w) back c) (number_left (cleaned v w) (length front) k)
+  pub cleaned-needed : (k : ℕ) → IsNeeded c k → IsNeeded (chain_left front (cleaned_versions v w) back c) (number_left (cleaned_versions v w) (length front) k)
   cleaned-needed = sees.needed
 
 -- a snapshot's number stays, and it pins the same version
@@ -254,7 +254,7 @@ pins-left (v ∷ w ∷ more) n i pins = same (pin_at pins i)
 
 -- ---- without room
 
-known_alike : (before now : List SpotState) → Alike (through now) (through before) → IsTrue (flagged Cache now) → IsTrue (flagged Cache before) × (content now ≡ content before)
+known_alike : (before now : List SpotState) → Alike (through now) (through before) → IsTrue (has_flag Cache now) → IsTrue (has_flag Cache before) × (content now ≡ content before)
 known_alike before now h k = (
   flagged-through Cache before ∙ ap (flag_over Cache) (sym h.0) ∙ sym (flagged-through Cache now) ∙ k,
   content-through now ∙ h.1 ∙ sym (content-through before),
@@ -311,8 +311,8 @@ module _ (c : Chain) (front back : List Version) (v w : Version) (vs : c.version
       })
       (λ d fs bs a b f es o s t q. record {
         needed = λ k need. dropped-needed d fs bs a b (f k) es o (q.needed k need);
-        known = λ k need. as-before-both (upto c.versions k) (upto d.versions (f k)) (upto (drop_version (length fs) d).versions (renumbered (length fs) (f k))) (q.known k need)
-            (alike-as-before (upto d.versions (f k)) (upto (drop_version (length fs) d).versions (renumbered (length fs) (f k))) (dropped-seen-each d fs bs a b es o s t (f k) (q.needed k need)));
+        known = λ k need. as-before-both (upto c.versions k) (upto d.versions (f k)) (upto (drop_version (length fs) d).versions (number_after_removal (length fs) (f k))) (q.known k need)
+            (alike-as-before (upto d.versions (f k)) (upto (drop_version (length fs) d).versions (number_after_removal (length fs) (f k))) (dropped-seen-each d fs bs a b es o s t (f k) (q.needed k need)));
       })
       front back (λ n. n) c v w vs (unneeded c (length front) may) i j
       (record { needed = λ _ need. need; known = λ k _. alike-as-before (upto c.versions k) (upto c.versions k) (alike-again (upto c.versions k)) })

@@ -16,13 +16,13 @@ use Rattle.rc_mutation.specs.declared.fragments.Frag.TheVariants as frag
 use Rattle.rc_core.specs.declared.entries.Entry.{Entry}
 use Rattle.rc_core.specs.declared.entries.Mark.{Mark}
 use Rattle.rc_core.specs.Version.{Ascend, EndsWithDummy, Version, IsVersion, end_position}
-use Rattle.rc_core.specs.Change.{change, changed, dummy, join_row_at, raised_mark, split, split_by, with_row}
+use Rattle.rc_core.specs.Change.{change, dummy, entry_changed, gap_split, join_row_at, raised_mark, split_by, with_row}
 use Rattle.rc_core.specs.Continuity.{with_entries}
 use Rattle.rc_core.specs.laws.Order.{change-is, split-ends, split-is}
 use Rattle.rc_core.specs.laws.Spots.{StandsAt, StandsBy, split-stands, position-reached}
 use Rattle.rc_core.specs.AtPlace.{EachEntry, EndsBehind, HasItsPlace, StandsAtPlace}
 use Rattle.rc_core.specs.laws.Placed.{each-map, each-split, each-wider, has-stands, stands-has}
-use Rattle.rc_units.specs.Update.{unit_place, Precedes, raise_upto, split_at, updated}
+use Rattle.rc_units.specs.Update.{unit_place, Precedes, raise_upto, split_at, updated_version}
 use Rattle.rc_units.proofs.Putting.{row-is}
 
 -- ---- a version
@@ -39,7 +39,7 @@ raise-is tomb q Static v i = i
 raise-is tomb q (Clustered x) v i = change-is (raised_mark tomb) q x v i
 raise-is tomb q End v i = change-is (raised_mark tomb) q end_position v i
 
-pub updated-version : (force : Option Tomb) (f : Frag) (next : Place) (v : Version) → IsVersion v → IsVersion (updated force f next v)
+pub updated-version : (force : Option Tomb) (f : Frag) (next : Place) (v : Version) → IsVersion v → IsVersion (updated_version force f next v)
 updated-version force (frag.Start pt) next v i = record { ascend = (split_at-is next v i).ascend; ends = (split_at-is next v i).ends }
 updated-version force (frag.Static row) next v i = record { ascend = (split_at-is next v i).ascend; ends = (split_at-is next v i).ends }
 updated-version force (frag.Row key row) next v i = raise-is force (row_pos key) next (with_entries (join_row_at (row_pos key) row v.entries) v) (row-is key row v i)
@@ -49,19 +49,19 @@ updated-version force frag.End next v i = i
 -- ---- the next place
 
 -- where an entry stands a split makes none
-stands-split : (x : Pos) (es : List Entry) → StandsAt x es → split x es ≡ es
+stands-split : (x : Pos) (es : List Entry) → StandsAt x es → gap_split x es ≡ es
 stands-split x [] st = absurd st
 stands-split x (e ∷ es) st =
-    elim (pos_cmp x e.position) as (λ r. StandsBy r (StandsAt x es) → split_by r x e es (split x es) ≡ e ∷ es) [
+    elim (pos_cmp x e.position) as (λ r. StandsBy r (StandsAt x es) → split_by r x e es (gap_split x es) ≡ e ∷ es) [
       | Less ↦ λ h. absurd h
       | Equal ↦ λ _. refl
       | Greater ↦ λ h. ap (λ xs. e ∷ xs) (stands-split x es h)
     ] st
 
-stands-changed : (f : Mark → Mark) (q p x : Pos) (es : List Entry) → StandsAt x es → StandsAt x (list_map (changed f q p) es)
+stands-changed : (f : Mark → Mark) (q p x : Pos) (es : List Entry) → StandsAt x es → StandsAt x (list_map (entry_changed f q p) es)
 stands-changed f q p x [] st = st
 stands-changed f q p x (e ∷ es) st =
-    elim (pos_cmp x e.position) as (λ r. StandsBy r (StandsAt x es) → StandsBy r (StandsAt x (list_map (changed f q p) es))) [
+    elim (pos_cmp x e.position) as (λ r. StandsBy r (StandsAt x es) → StandsBy r (StandsAt x (list_map (entry_changed f q p) es))) [
       | Less ↦ λ h. h
       | Equal ↦ λ h. h
       | Greater ↦ λ h. stands-changed f q p x es h
@@ -80,7 +80,7 @@ place-cut End es a h = refl
 stands_at : (p : Place) (es : List Entry) → EndsWithDummy es → StandsAtPlace p (split_at p es)
 stands_at Head es d = tt
 stands_at Static es d = tt
-stands_at (Clustered x) es d = stands-has x (split x es) (split-stands x es (position-reached x es d))
+stands_at (Clustered x) es d = stands-has x (gap_split x es) (split-stands x es (position-reached x es d))
 stands_at End es d = tt
 
 stands_raised : (tomb : Option Tomb) (q : Pos) (p : Place) (es : List Entry) → EndsWithDummy es → StandsAtPlace p (raise_upto tomb q p es)
@@ -88,7 +88,7 @@ stands_raised tomb q Head es d = tt
 stands_raised tomb q Static es d = tt
 stands_raised tomb q (Clustered x) es d =
     stands-has x (change (raised_mark tomb) q x es)
-    (stands-changed (raised_mark tomb) q x x (split x (split q es)) (split-stands x (split q es) (position-reached x (split q es) (split-ends q es d))))
+    (stands-changed (raised_mark tomb) q x x (gap_split x (gap_split q es)) (split-stands x (gap_split q es) (position-reached x (gap_split q es) (split-ends q es d))))
 stands_raised tomb q End es d = tt
 
 -- ---- none stands behind it but the end dummy
@@ -113,17 +113,17 @@ last_raised : (tomb : Option Tomb) (q : Pos) (p : Place) (es : List Entry) → (
 last_raised tomb q Head es off h = h
 last_raised tomb q Static es off h = h
 last_raised tomb q (Clustered x) es off h =
-    each-map (EndsBehind (Clustered x)) (changed (raised_mark tomb) q x) (λ _ k. k) (split x (split q es))
-    (each-split (EndsBehind (Clustered x)) x (itself_behind x) (split q es) (each-split (EndsBehind (Clustered x)) q (not_behind (Clustered x) q off) es h))
+    each-map (EndsBehind (Clustered x)) (entry_changed (raised_mark tomb) q x) (λ _ k. k) (gap_split x (gap_split q es))
+    (each-split (EndsBehind (Clustered x)) x (itself_behind x) (gap_split q es) (each-split (EndsBehind (Clustered x)) q (not_behind (Clustered x) q off) es h))
 last_raised tomb q End es off h =
-    each-map (EndsBehind End) (changed (raised_mark tomb) q end_position) (λ _ k. k) (split end_position (split q es))
-    (each-split (EndsBehind End) end_position (λ _ _. refl) (split q es) (each-split (EndsBehind End) q (not_behind End q off) es h))
+    each-map (EndsBehind End) (entry_changed (raised_mark tomb) q end_position) (λ _ k. k) (gap_split end_position (gap_split q es))
+    (each-split (EndsBehind End) end_position (λ _ _. refl) (gap_split q es) (each-split (EndsBehind End) q (not_behind End q off) es h))
 
 row_joined_behind : (p : Place) (q : Pos) (row : Row) (es : List Entry) → (place_cmp (Clustered q) p ≡ Greater → ⊥) → EachEntry (EndsBehind p) es → EachEntry (EndsBehind p) (join_row_at q row es)
 row_joined_behind p q row es off h =
     each-map (EndsBehind p) (λ e. cond (eq_by_cmp pos_cmp q e.position) (with_row row e) e)
     (λ e k. elim (eq_by_cmp pos_cmp q e.position) as (λ b. EndsBehind p (cond b (with_row row e) e)) [ true ↦ k | false ↦ k ])
-    (split q es) (each-split (EndsBehind p) q (not_behind p q off) es h)
+    (gap_split q es) (each-split (EndsBehind p) q (not_behind p q off) es h)
 
 not_greater : (r : Ordering) → r ≡ Less → r ≡ Greater → ⊥
 not_greater Less e g = cc
@@ -146,10 +146,10 @@ behind_next p q off x l = by (place_cmp p q) refl
     by Equal e = subst (λ z. place_cmp z x ≡ Less) (sym (place_cmp_same p q e)) l
     by Greater e = absurd (off e)
 
-pub updated-place : (force : Option Tomb) (f : Frag) (next : Place) (v : Version) → Precedes f next → IsVersion v → HasItsPlace (unit_place f) v.entries → HasItsPlace next (updated force f next v).entries
+pub updated-place : (force : Option Tomb) (f : Frag) (next : Place) (v : Version) → Precedes f next → IsVersion v → HasItsPlace (unit_place f) v.entries → HasItsPlace next (updated_version force f next v).entries
 updated-place force f next v p i h = by f p (each-wider (EndsBehind (unit_place f)) (EndsBehind next) (λ e k l. k (behind_next (unit_place f) next (precedes-le f next p) (Clustered e.position) l)) v.entries h.last)
   where
-    by : (f : Frag) → Precedes f next → EachEntry (EndsBehind next) v.entries → HasItsPlace next (updated force f next v).entries
+    by : (f : Frag) → Precedes f next → EachEntry (EndsBehind next) v.entries → HasItsPlace next (updated_version force f next v).entries
     by (frag.Start pt) p b = record { stands = stands_at next v.entries i.ends; last = last_split next v.entries b }
     by (frag.Static row) p b = record { stands = stands_at next v.entries i.ends; last = last_split next v.entries b }
     by (frag.Row key row) p b = record {

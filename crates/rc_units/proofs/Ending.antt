@@ -5,12 +5,12 @@ use Rattle.rc_cell.specs.declared.rows.Row.{Row}
 use Rattle.rc_core.specs.declared.entries.ChainKind.TheVariants.{Cache}
 use Rattle.rc_core.specs.declared.entries.Entry.{Entry}
 use Rattle.rc_core.specs.Chains.{Chain, IsPinned}
-use Rattle.rc_core.specs.Steps.{renumbered}
+use Rattle.rc_core.specs.Steps.{number_after_removal}
 use Rattle.rc_core.specs.Version.{Version, IsVersion}
 use Rattle.rc_core.specs.laws.Merged.{pin_of, pinned_newer, pinned_older, renumbered-newer, renumbered-older}
 use Rattle.rc_core.specs.laws.Standing.{above, above-is, length-cons}
 use Rattle.rc_units.specs.Chained.{Counts, chain_left, units_counted}
-use Rattle.rc_units.specs.Clean.{MayMerge, cache_cleaned_by, cleaned, cleaned_by, cleaned_without_room, static_units, units_of}
+use Rattle.rc_units.specs.Clean.{MayMerge, cache_cleaned_by, cleaned_by, cleaned_versions, cleaned_without_room, static_units, units_of}
 use Rattle.rc_units.proofs.Cleaned.{pinned_by}
 use Rattle.rc_units.proofs.Units.{no_entries}
 
@@ -61,7 +61,7 @@ module _ (v w : Version) (i : IsVersion v) where
   statics_less (Some row) h = omega (arith, ap static_units h)
   statics_less None h = entries_less v.entries refl
 
-  cleaned_less : Lessens v (cleaned v w)
+  cleaned_less : Lessens v (cleaned_versions v w)
   cleaned_less = statics_less v.statics refl
 
   lost_entries_less : (es : List Entry) → v.entries ≡ es → Lessens v (cache_cleaned_by None es v w)
@@ -132,7 +132,7 @@ module _ (c : Chain) (front back : List Version) (v w : Version) (vs : c.version
     older_is j l = same_bool (after j) (counts j)
         (λ h. let m = now.sound j h in is.complete j (record {
           older = omega (arith, l, lengths);
-          unpinned = λ p. m.unpinned (subst (IsPinned (list_map (option_map (renumbered n)) c.pins)) (renumbered-older n j l) (pinned_by n j c.pins p));
+          unpinned = λ p. m.unpinned (subst (IsPinned (list_map (option_map (number_after_removal n)) c.pins)) (renumbered-older n j l) (pinned_by n j c.pins p));
           settled = λ up g. omega (arith, l, g, lengths);
         }))
         (λ h. let m = is.sound j h in now.complete j (record {
@@ -145,7 +145,7 @@ module _ (c : Chain) (front back : List Version) (v w : Version) (vs : c.version
     newer_is k = same_bool (after (above n k)) (counts (above n (suc k)))
         (λ h. let m = now.sound (above n k) h in let o = m.older in is.complete (above n (suc k)) (record {
           older = omega (arith, o, fewer, lengths, above-is n k, above-is n (suc k));
-          unpinned = λ p. m.unpinned (subst (IsPinned (list_map (option_map (renumbered n)) c.pins)) (renumbered-newer n k) (pinned_by n (above n (suc k)) c.pins p));
+          unpinned = λ p. m.unpinned (subst (IsPinned (list_map (option_map (number_after_removal n)) c.pins)) (renumbered-newer n k) (pinned_by n (above n (suc k)) c.pins p));
           settled = λ up g. m.settled up (omega (arith, g, fewer, lengths, above-is n k, above-is n (suc k)));
         }))
         (λ h. let m = is.sound (above n (suc k)) h in let o = m.older in now.complete (above n k) (record {
@@ -170,8 +170,8 @@ module _ (c : Chain) (front back : List Version) (v w : Version) (vs : c.version
   lessened some (u ∷ x ∷ y ∷ more) l after now = absurd l
 
   module _ (i : IsVersion v) where
-    pub cleaned-ends : (after : ℕ → Bool) → Counts (chain_left front (cleaned v w) back c) after → units_counted after (chain_left front (cleaned v w) back c).versions < units_counted counts c.versions
-    cleaned-ends after now = lessened (some_units v i) (cleaned v w) (cleaned_less v w i) after now
+    pub cleaned-ends : (after : ℕ → Bool) → Counts (chain_left front (cleaned_versions v w) back c) after → units_counted after (chain_left front (cleaned_versions v w) back c).versions < units_counted counts c.versions
+    cleaned-ends after now = lessened (some_units v i) (cleaned_versions v w) (cleaned_less v w i) after now
 
     pub lost-ends : (after : ℕ → Bool) → Counts (chain_left front (cleaned_without_room Cache v w) back c) after → units_counted after (chain_left front (cleaned_without_room Cache v w) back c).versions < units_counted counts c.versions
     lost-ends after now = lessened (some_units v i) (cleaned_without_room Cache v w) (lost_less v w i) after now

@@ -10,8 +10,8 @@ use Rattle.rc_position.specs.Position.{Place, Head, Static, Clustered, End, plac
 use Rattle.rc_position.specs.laws.Bounds.{place_cmp_total, place_cmp_same}
 use Rattle.rc_core.specs.declared.entries.Entry.{Entry}
 use Rattle.rc_core.specs.declared.entries.Flag.TheVariants.{Unknown}
-use Rattle.rc_core.specs.SpotState.{lost}
-use Rattle.rc_core.specs.Version.{Spot, On, Behind, found, seen, spot_cmp, Version, IsVersion, EndsWithDummy, state_of, static_state, end_position}
+use Rattle.rc_core.specs.SpotState.{lost_state}
+use Rattle.rc_core.specs.Version.{Spot, On, Behind, finding_of, finding_in, spot_cmp, Version, IsVersion, EndsWithDummy, state_of, static_state, end_position}
 use Rattle.rc_core.specs.Change.{lost_mark, position_of}
 use Rattle.rc_core.specs.laws.GivenUp.{at_itself}
 use Rattle.rc_core.specs.laws.Order.{ascend-map}
@@ -52,28 +52,28 @@ before_place s (Clustered q) es cut l =
 before_place s End es cut l = gap-any (λ y. is_lt (place_cmp End (Clustered y)) ≡ false) s es (λ y. refl)
 
 module _ (p : Place) (s : Spot) (es : List Entry) where
-  pub lost-before : IsCut p es → place_cmp (Clustered (position_of s)) p ≡ Less → seen s (list_map (lost_behind p) es) ≡ seen s es
+  pub lost-before : IsCut p es → place_cmp (Clustered (position_of s)) p ≡ Less → finding_in s (list_map (lost_behind p) es) ≡ finding_in s es
   lost-before cut l =
       map-seen (lost_behind p) (λ y. refl) s (λ a. a) (λ y. is_lt (place_cmp p (Clustered y)) ≡ false)
-      (λ y h g. ap (λ b. found (cond b lost_mark y.gap) None) g)
-      (λ y h. ap (λ b. found (cond b lost_mark y.at) (cond b None y.row))
+      (λ y h g. ap (λ b. finding_of (cond b lost_mark y.gap) None) g)
+      (λ y h. ap (λ b. finding_of (cond b lost_mark y.at) (cond b None y.row))
       (ap (λ r. is_le r && is_lt (pos_cmp y.position end_position)) (turned_place (Clustered y.position) p (subst (λ x. place_cmp (Clustered x) p ≡ Less) (spot-Equal s y.position h) l))))
       es (inr refl) (before_place s p es cut l)
 
-  pub lost-within : (place_cmp (Clustered (position_of s)) p ≡ Less → ⊥) → IsBefore (position_of s) end_position → EndsWithDummy es → seen s (list_map (lost_behind p) es) ≡ found lost_mark None
+  pub lost-within : (place_cmp (Clustered (position_of s)) p ≡ Less → ⊥) → IsBefore (position_of s) end_position → EndsWithDummy es → finding_in s (list_map (lost_behind p) es) ≡ finding_of lost_mark None
   lost-within off b d =
-      map-seen (lost_behind p) (λ y. refl) s (λ _. found lost_mark None) (λ _. Unit {0})
-      (λ y h _. ap (λ r. found (cond (is_lt r) lost_mark y.gap) None) (from_by (place_cmp (Clustered (position_of s)) p) p (Clustered (position_of s)) (Clustered y.position) refl off (spot-Less s y.position h)))
-      (λ y h. ap (λ b. found (cond b lost_mark y.at) (cond b None y.row))
+      map-seen (lost_behind p) (λ y. refl) s (λ _. finding_of lost_mark None) (λ _. Unit {0})
+      (λ y h _. ap (λ r. finding_of (cond (is_lt r) lost_mark y.gap) None) (from_by (place_cmp (Clustered (position_of s)) p) p (Clustered (position_of s)) (Clustered y.position) refl off (spot-Less s y.position h)))
+      (λ y h. ap (λ b. finding_of (cond b lost_mark y.at) (cond b None y.row))
       (subst (λ x. (is_le (place_cmp p (Clustered x)) && is_lt (pos_cmp x end_position)) ≡ true) (spot-Equal s y.position h)
       (λ i. le_by (place_cmp (Clustered (position_of s)) p) p (Clustered (position_of s)) refl off i && is_lt (b i))))
       es (inl (reached_inside s es d b)) (gap-any (λ _. Unit {0}) s es (λ _. tt))
 
-  pub lost-end : (pos_cmp (position_of s) end_position ≡ Less → ⊥) → seen s (list_map (lost_behind p) es) ≡ seen s es
+  pub lost-end : (pos_cmp (position_of s) end_position ≡ Less → ⊥) → finding_in s (list_map (lost_behind p) es) ≡ finding_in s es
   lost-end off =
       map-seen (lost_behind p) (λ y. refl) s (λ a. a) (λ _. Unit {0})
       (λ y h _. absurd (off (before_end y.position (position_of s) (spot-Less s y.position h))))
-      (λ y h. ap (λ b. found (cond b lost_mark y.at) (cond b None y.row))
+      (λ y h. ap (λ b. finding_of (cond b lost_mark y.at) (cond b None y.row))
       (ap (λ b. is_le (place_cmp p (Clustered y.position)) && b) (not_less (pos_cmp y.position end_position) (subst (λ x. pos_cmp x end_position ≡ Less → ⊥) (spot-Equal s y.position h) off)) ∙ and_false (is_le (place_cmp p (Clustered y.position)))))
       es (inr refl) (gap-any (λ _. Unit {0}) s es (λ _. tt))
 
@@ -97,11 +97,11 @@ statics_kept : (b : Bool) (v : Version) → b ≡ false → static_state (cond b
 statics_kept true v h = absurd (cc)
 statics_kept false v h = refl
 
-statics_gone : (b : Bool) (v : Version) → b ≡ true → static_state (cond b (record { pt = v.pt; statics = None; static_flag = Unknown; entries = v.entries; phase = v.phase }) v) ≡ lost
+statics_gone : (b : Bool) (v : Version) → b ≡ true → static_state (cond b (record { pt = v.pt; statics = None; static_flag = Unknown; entries = v.entries; phase = v.phase }) v) ≡ lost_state
 statics_gone true v h = refl
 statics_gone false v h = absurd (cc)
 
-pub statics-lost : (p : Place) (v : Version) → (place_cmp Static p ≡ Less → ⊥) → static_state (lost_from p v) ≡ lost
+pub statics-lost : (p : Place) (v : Version) → (place_cmp Static p ≡ Less → ⊥) → static_state (lost_from p v) ≡ lost_state
 statics-lost p v off = statics_gone (is_le (place_cmp p Static)) v (le_by (place_cmp Static p) p Static refl off)
 
 head_kept : (b : Bool) (v : Version) → (cond b (record { pt = v.pt; statics = None; static_flag = Unknown; entries = v.entries; phase = v.phase }) v).pt ≡ v.pt

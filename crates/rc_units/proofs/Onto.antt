@@ -10,8 +10,8 @@ use Rattle.rc_position.specs.Position.{pos_cmp}
 use Rattle.rc_position.specs.laws.Orders.{pos_cmp_total, pos_cmp_same}
 use Rattle.rc_core.specs.declared.entries.Entry.{Entry}
 use Rattle.rc_core.specs.declared.entries.Flag.TheVariants.{Inherit}
-use Rattle.rc_core.specs.Version.{Spot, On, Behind, gap_ordering, spot_cmp, Finding, found, entry_answers, seen, IsBeforeEnd, IsReachedBy}
-use Rattle.rc_core.specs.Change.{mark, split, split_by}
+use Rattle.rc_core.specs.Version.{Spot, On, Behind, gap_ordering, spot_cmp, Finding, finding_of, entry_answers, finding_in, IsBeforeEnd, IsReachedBy}
+use Rattle.rc_core.specs.Change.{gap_split, mark, split_by}
 use Rattle.rc_core.specs.laws.Spots.{turn_to, behind-Equal, spot-Less, spot-before}
 
 -- ---- the gap that answers
@@ -37,10 +37,10 @@ gap-any P s (y ∷ ys) p = elim (spot_cmp s y.position) as (λ r. GapBy r (P y.p
 cut-behind : (s : Spot) (q : Pos) (es : List Entry) → spot_cmp s q ≡ Greater → GapIs (CutAt s q) s es
 cut-behind s q es g = gap-any (CutAt s q) s es (λ y h. let u : is_gt Greater ≡ false = ap is_gt (sym g) ∙ h in absurd (cc))
 
-pub cut-split : (s : Spot) (x : Pos) (es : List Entry) → GapIs (CutAt s x) s (split x es)
+pub cut-split : (s : Spot) (x : Pos) (es : List Entry) → GapIs (CutAt s x) s (gap_split x es)
 cut-split s x [] = tt
 cut-split s x (e ∷ es) =
-    elim (pos_cmp x e.position) as (λ r. pos_cmp x e.position ≡ r → GapIs (CutAt s x) s (split_by r x e es (split x es))) [
+    elim (pos_cmp x e.position) as (λ r. pos_cmp x e.position ≡ r → GapIs (CutAt s x) s (split_by r x e es (gap_split x es))) [
       | Less ↦ λ l. elim (spot_cmp s x) as (λ r. spot_cmp s x ≡ r → GapBy r (CutAt s x x) (GapIs (CutAt s x) s (e ∷ es))) [
         | Less ↦ λ h _. ap is_gt (tied_itself pos_cmp_total x)
         | Equal ↦ λ h. tt
@@ -51,24 +51,24 @@ cut-split s x (e ∷ es) =
         | Equal ↦ λ h. tt
         | Greater ↦ λ h. cut-behind s x es (subst (λ y. spot_cmp s y ≡ Greater) (sym (pos_cmp_same x e.position l)) h)
       ] refl
-      | Greater ↦ λ l. elim (spot_cmp s e.position) as (λ r. GapBy r (CutAt s x e.position) (GapIs (CutAt s x) s (split x es))) [
+      | Greater ↦ λ l. elim (spot_cmp s e.position) as (λ r. GapBy r (CutAt s x e.position) (GapIs (CutAt s x) s (gap_split x es))) [
         | Less ↦ λ _. ap is_gt (turn_to x e.position Greater l)
         | Equal ↦ tt
         | Greater ↦ cut-split s x es
       ]
     ] refl
 
-pub cut-kept : (s : Spot) (q x : Pos) (es : List Entry) → GapIs (CutAt s q) s es → GapIs (CutAt s q) s (split x es)
+pub cut-kept : (s : Spot) (q x : Pos) (es : List Entry) → GapIs (CutAt s q) s es → GapIs (CutAt s q) s (gap_split x es)
 cut-kept s q x [] m = tt
 cut-kept s q x (e ∷ es) m =
-    elim (pos_cmp x e.position) as (λ r. pos_cmp x e.position ≡ r → GapIs (CutAt s q) s (split_by r x e es (split x es))) [
+    elim (pos_cmp x e.position) as (λ r. pos_cmp x e.position ≡ r → GapIs (CutAt s q) s (split_by r x e es (gap_split x es))) [
       | Less ↦ λ l. elim (spot_cmp s x) as (λ r. spot_cmp s x ≡ r → GapBy r (CutAt s q x) (GapIs (CutAt s q) s (e ∷ es))) [
         | Less ↦ λ h k. upto pos_cmp_total x e.position q (ap is_gt l) (subst (λ r. GapBy r (CutAt s q e.position) (GapIs (CutAt s q) s es)) (spot-before s x e.position h l) m k)
         | Equal ↦ λ h. tt
         | Greater ↦ λ h. m
       ] refl
       | Equal ↦ λ l. m
-      | Greater ↦ λ l. elim (spot_cmp s e.position) as (λ r. GapBy r (CutAt s q e.position) (GapIs (CutAt s q) s es) → GapBy r (CutAt s q e.position) (GapIs (CutAt s q) s (split x es))) [
+      | Greater ↦ λ l. elim (spot_cmp s e.position) as (λ r. GapBy r (CutAt s q e.position) (GapIs (CutAt s q) s es) → GapBy r (CutAt s q e.position) (GapIs (CutAt s q) s (gap_split x es))) [
         | Less ↦ λ h. h
         | Equal ↦ λ h. tt
         | Greater ↦ λ h. cut-kept s q x es h
@@ -95,17 +95,17 @@ spot-between (Behind x) e y off l = after_it (pos_cmp x e) x e y refl (λ h. off
 -- ---- a function on each entry
 
 abbrev pub nothing_found : Finding
-nothing_found = found (mark Inherit None) None
+nothing_found = finding_of (mark Inherit None) None
 
 module _ (f : Entry → Entry) (keeps : (y : Entry) → (f y).position ≡ y.position) (s : Spot) (F : Finding → Finding) (P : Pos → Type 0)
-    (gaps : (y : Entry) → spot_cmp s y.position ≡ Less → P y.position → found (f y).gap None ≡ F (found y.gap None))
-    (ats : (y : Entry) → spot_cmp s y.position ≡ Equal → found (f y).at (f y).row ≡ F (found y.at y.row)) where
-  pub map-seen : (es : List Entry) → IsBeforeEnd s es ⊎ (F nothing_found ≡ nothing_found) → GapIs P s es → seen s (list_map f es) ≡ F (seen s es)
+    (gaps : (y : Entry) → spot_cmp s y.position ≡ Less → P y.position → finding_of (f y).gap None ≡ F (finding_of y.gap None))
+    (ats : (y : Entry) → spot_cmp s y.position ≡ Equal → finding_of (f y).at (f y).row ≡ F (finding_of y.at y.row)) where
+  pub map-seen : (es : List Entry) → IsBeforeEnd s es ⊎ (F nothing_found ≡ nothing_found) → GapIs P s es → finding_in s (list_map f es) ≡ F (finding_in s es)
   map-seen [] b g = ⊎_elim (λ h. absurd h) (λ e. sym e) b
   map-seen (y ∷ ys) b g =
-      ap (λ q. entry_answers (spot_cmp s q) (f y) (seen s (list_map f ys))) (keeps y)
+      ap (λ q. entry_answers (spot_cmp s q) (f y) (finding_in s (list_map f ys))) (keeps y)
       ∙ elim (spot_cmp s y.position) as (λ r. spot_cmp s y.position ≡ r → IsReachedBy r (IsBeforeEnd s ys) ⊎ (F nothing_found ≡ nothing_found) → GapBy r (P y.position) (GapIs P s ys) →
-      entry_answers r (f y) (seen s (list_map f ys)) ≡ F (entry_answers r y (seen s ys))) [
+      entry_answers r (f y) (finding_in s (list_map f ys)) ≡ F (entry_answers r y (finding_in s ys))) [
         | Less ↦ λ l _ p. gaps y l p
         | Equal ↦ λ l _ _. ats y l
         | Greater ↦ λ _ h p. map-seen ys h p

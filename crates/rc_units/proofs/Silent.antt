@@ -13,7 +13,7 @@ use Rattle.rc_core.specs.declared.entries.Flag.TheVariants.{Known, Unknown, Inhe
 use Rattle.rc_core.specs.declared.entries.Mark.{Mark}
 use Rattle.rc_core.specs.Change.{mark}
 use Rattle.rc_core.specs.Plain.{found_under, mark_by, mark_under, no_mark, row_under}
-use Rattle.rc_core.specs.Version.{Finding, found}
+use Rattle.rc_core.specs.Version.{Finding, finding_of}
 use Rattle.rc_core.specs.laws.Spots.{turn_to}
 use Rattle.rc_units.specs.Clean.{entry_onto, gap_onto_by, onto_by, onto_at, onto_gap}
 
@@ -31,8 +31,8 @@ row_nothing Unknown r = refl
 row_nothing Inherit None = refl
 row_nothing Inherit (Some r) = refl
 
-pub nothing-under : (newer : Finding) → found_under (found no_mark None) newer ≡ newer
-nothing-under a = λ i. found (mark-nothing a.mark i) (row_nothing a.mark.flag a.row i)
+pub nothing-under : (newer : Finding) → found_under (finding_of no_mark None) newer ≡ newer
+nothing-under a = λ i. finding_of (mark-nothing a.mark i) (row_nothing a.mark.flag a.row i)
 
 both_nothing : (m : Mark) (y : Entry) → m ≡ no_mark → onto_at m None (onto_gap m y) ≡ y
 both_nothing m y e =

@@ -14,7 +14,7 @@ use Rattle.rc_core.specs.declared.entries.Flag.{Flag}
 use Rattle.rc_core.specs.declared.entries.Flag.TheVariants.{Known, Unknown, Inherit}
 use Rattle.rc_core.specs.declared.entries.Mark.{Mark}
 use Rattle.rc_core.specs.SpotState.{spot_state, over, under}
-use Rattle.rc_core.specs.Version.{Finding, found, state_of}
+use Rattle.rc_core.specs.Version.{Finding, finding_of, state_of}
 use Rattle.rc_core.specs.Change.{mark}
 use Rattle.rc_core.specs.Continuity.{joined_options}
 use Rattle.rc_core.specs.Merge.{Alike}
@@ -33,7 +33,7 @@ joined_says None (Some q) = refl
 joined_says (Some r) (Some q) = joined-again (r ∷ q ∷ [])
 
 under_by : (f : Flag) (m : Mark) (r : Option Row) (t : Option Tomb) (q : Option Row) →
-    Alike (state_of (found (mark_by f m (mark f t)) (row_under f r q))) (over f (state_of (found m r)) (spot_state f (option_to_list q) (option_to_list t)))
+    Alike (state_of (finding_of (mark_by f m (mark f t)) (row_under f r q))) (over f (state_of (finding_of m r)) (spot_state f (option_to_list q) (option_to_list t)))
 under_by Known m r t q = (refl, refl)
 under_by Unknown m r t q = (refl, refl)
 under_by Inherit m r t q = (refl, λ i. (joined_says r q i, greater_says m.tomb t i))

@@ -20,8 +20,8 @@ use Rattle.rc_core.specs.declared.entries.Entry.{Entry}
 use Rattle.rc_core.specs.declared.entries.Flag.TheVariants.{Inherit}
 use Rattle.rc_core.specs.SpotState.{SpotState, over, through}
 use Rattle.rc_core.specs.Chains.{AllInherit, IsCarried}
-use Rattle.rc_core.specs.Version.{Spot, Version, IsVersion, Ascend, EndsWithDummy, found, seen, spot_cmp, entry_answers, end_position}
-use Rattle.rc_core.specs.Chain.{states_at, content, flagged, flag_over, IsEvenAt}
+use Rattle.rc_core.specs.Version.{Spot, Version, IsVersion, Ascend, EndsWithDummy, finding_of, finding_in, spot_cmp, entry_answers, end_position}
+use Rattle.rc_core.specs.Chain.{states_at, content, has_flag, flag_over, IsEvenAt}
 use Rattle.rc_core.specs.Change.{drop_at, without_gap, lose_first_gap, lost_mark}
 use Rattle.rc_core.specs.Continuity.{EachOf, IsContinuous, IsEvicted, IsSameOrLost, with_entries, without_statics}
 use Rattle.rc_core.specs.Merge.{Alike, IsSeenAlike, IsMerged, IsPutDown, IsSilent}
@@ -30,7 +30,7 @@ use Rattle.rc_core.specs.laws.Updating.{carried}
 use Rattle.rc_core.specs.laws.Losing.{entry-evicted, statics-evicted, evicted-continuous, evicted-seen, known-before}
 use Rattle.rc_core.specs.laws.Merging.{merged-seen, dropped-seen, alike-seen, alike-even}
 use Rattle.rc_core.specs.laws.Keeping.{dropped-continuous, each_less, each_two, merged-continuous}
-use Rattle.rc_units.specs.Clean.{cleaned, cleaned_by, entry_cleaned, cache_cleaned_by, cleaned_without_room, further, clean_times, units_of, static_units, gap_said, merge_entry, end_merged, emptied, statics_said, statics_onto}
+use Rattle.rc_units.specs.Clean.{cleaned_versions, cleaned_by, entry_cleaned, cache_cleaned_by, cleaned_without_room, further, clean_times, units_of, static_units, gap_said, merge_entry, end_merged, emptied_version, statics_said, statics_onto}
 use Rattle.rc_units.proofs.Under.{pt_known}
 use Rattle.rc_units.proofs.Cleaning.{statics-merged, entry-merged, end-merged, emptied-silent}
 use Rattle.rc_units.proofs.Versions.{merge_entry-version, end_merged-version, gap_said-version, lost-version}
@@ -76,7 +76,7 @@ module _ (v w : Version) (i : IsVersion v) (j : IsVersion w) where
   statics_versions (Some row) = (record { ascend = i.ascend; ends = i.ends }, (record { ascend = j.ascend; ends = j.ends }, tt))
   statics_versions None = entries_versions v.entries refl
 
-  pub cleaned-versions : EachOf IsVersion (cleaned v w)
+  pub cleaned-versions : EachOf IsVersion (cleaned_versions v w)
   cleaned-versions = statics_versions v.statics
 
 -- ---- a unit keeps whatever merging and dropping keep
@@ -85,7 +85,7 @@ module _ (P : List Version → Type 0) (front back : List Version)
     (merging : (a b c d : Version) → IsMerged a b c d → P (front ++ a ∷ b ∷ back) → P (front ++ c ∷ d ∷ back))
     (dropping : (a b : Version) → IsSilent a → greatest tomb_cmp (option_to_list a.pt ++ option_to_list b.pt) ≡ greatest tomb_cmp (option_to_list b.pt) → P (front ++ a ∷ b ∷ back) → P (front ++ b ∷ back)) where
   end_kept : (v w : Version) (e : Entry) → v.entries ≡ e ∷ [] → IsVersion v → IsVersion w → P (front ++ v ∷ w ∷ back) → P (front ++ end_merged e v w ∷ back)
-  end_kept v w e h i j p = dropping (emptied e v) (end_merged e v w) (emptied-silent e v) (pt_known v.pt w.pt) (merging v w (emptied e v) (end_merged e v w) (end-merged v w e h i j) p)
+  end_kept v w e h i j p = dropping (emptied_version e v) (end_merged e v w) (emptied-silent e v) (pt_known v.pt w.pt) (merging v w (emptied_version e v) (end_merged e v w) (end-merged v w e h i j) p)
 
   module _ (v w : Version) (i : IsVersion v) (j : IsVersion w) (p : P (front ++ v ∷ w ∷ back)) where
     entry_kept : (e n : Entry) (more : List Entry) → v.entries ≡ e ∷ n ∷ more → P (front ++ (entry_cleaned e n more v w ++ back))
@@ -104,7 +104,7 @@ module _ (P : List Version → Type 0) (front back : List Version)
     statics_kept (Some row) = merging v w (statics_said v) (statics_onto v w) (statics-merged v w) p
     statics_kept None = entries_kept v.entries refl
 
-    pub unit-kept : P (front ++ (cleaned v w ++ back))
+    pub unit-kept : P (front ++ (cleaned_versions v w ++ back))
     unit-kept = statics_kept v.statics
 
   further_kept : (f : Version → Version → List Version) → ((a b : Version) → IsVersion a → IsVersion b → P (front ++ a ∷ b ∷ back) → P (front ++ (f a b ++ back))) →
@@ -116,9 +116,9 @@ module _ (P : List Version → Type 0) (front back : List Version)
 
   pub times-kept : (k : ℕ) (v w : Version) → IsVersion v → IsVersion w → P (front ++ v ∷ w ∷ back) → P (front ++ (clean_times k v w ++ back))
   times-kept zero v w i j p = p
-  times-kept (suc k) v w i j p = further_kept (clean_times k) (times-kept k) (cleaned v w) (cleaned-versions v w i j) (unit-kept v w i j p)
+  times-kept (suc k) v w i j p = further_kept (clean_times k) (times-kept k) (cleaned_versions v w) (cleaned-versions v w i j) (unit-kept v w i j p)
 
-pub unit-seen : (front back : List Version) (v w : Version) → IsVersion v → IsVersion w → IsSeenAlike (front ++ v ∷ w ∷ back) (front ++ (cleaned v w ++ back))
+pub unit-seen : (front back : List Version) (v w : Version) → IsVersion v → IsVersion w → IsSeenAlike (front ++ v ∷ w ∷ back) (front ++ (cleaned_versions v w ++ back))
 unit-seen front back v w i j =
     unit-kept (IsSeenAlike (front ++ v ∷ w ∷ back)) front back
     (λ a b c d m h. alike-both _ _ _ h (merged-seen front back a b c d m))
@@ -126,18 +126,18 @@ unit-seen front back v w i j =
     v w i j (alike-again (front ++ v ∷ w ∷ back))
 
 pub unit-continuous : (reach : Option Place) (writes : List Mutation) (front back : List Version) (v w : Version) → IsVersion v → IsVersion w →
-    IsContinuous reach writes (front ++ v ∷ w ∷ back) → IsContinuous reach writes (front ++ (cleaned v w ++ back))
+    IsContinuous reach writes (front ++ v ∷ w ∷ back) → IsContinuous reach writes (front ++ (cleaned_versions v w ++ back))
 unit-continuous reach writes front back v w i j k =
     unit-kept (IsContinuous reach writes) front back (λ a b c d m h. merged-continuous reach writes front back a b c d m h) (λ a b s t h. dropped-continuous reach writes front back a b s t h) v w i j k
 
 pub unit-carried : (updating : Option Place) (front mid back : List Version) (v w : Version) (x : Pos) → IsVersion v → IsVersion w →
-    IsCarried updating (front ++ v ∷ w ∷ mid) (front ++ v ∷ w ∷ back) x → IsCarried updating (front ++ (cleaned v w ++ mid)) (front ++ (cleaned v w ++ back)) x
+    IsCarried updating (front ++ v ∷ w ∷ mid) (front ++ v ∷ w ∷ back) x → IsCarried updating (front ++ (cleaned_versions v w ++ mid)) (front ++ (cleaned_versions v w ++ back)) x
 unit-carried updating front mid back v w x i j =
-    carried updating (front ++ v ∷ w ∷ mid) (front ++ v ∷ w ∷ back) (front ++ (cleaned v w ++ mid)) (front ++ (cleaned v w ++ back)) x
+    carried updating (front ++ v ∷ w ∷ mid) (front ++ v ∷ w ∷ back) (front ++ (cleaned_versions v w ++ mid)) (front ++ (cleaned_versions v w ++ back)) x
     (unit-seen front mid v w i j) (unit-seen front back v w i j)
 
-pub unit-even : (kind : ChainKind) (front back : List Version) (v w : Version) (x : Pos) → IsVersion v → IsVersion w → IsEvenAt kind (front ++ v ∷ w ∷ back) x → IsEvenAt kind (front ++ (cleaned v w ++ back)) x
-unit-even kind front back v w x i j = alike-even kind (front ++ v ∷ w ∷ back) (front ++ (cleaned v w ++ back)) x (unit-seen front back v w i j)
+pub unit-even : (kind : ChainKind) (front back : List Version) (v w : Version) (x : Pos) → IsVersion v → IsVersion w → IsEvenAt kind (front ++ v ∷ w ∷ back) x → IsEvenAt kind (front ++ (cleaned_versions v w ++ back)) x
+unit-even kind front back v w x i j = alike-even kind (front ++ v ∷ w ∷ back) (front ++ (cleaned_versions v w ++ back)) x (unit-seen front back v w i j)
 
 -- ---- a whole merge
 
@@ -220,17 +220,17 @@ lost-continuous kind reach writes front back v w i j k =
     (λ a b c e h. evicted-continuous reach writes front (b ∷ back) a c e h) v w i j k kind
 
 -- what was said from the first entry on and before the next is lost
-pub first-lost : (s : Spot) (n : Entry) (back : List Entry) → spot_cmp s n.position ≡ Less → seen s (lose_first_gap (n ∷ back)) ≡ found lost_mark None
-first-lost s n back h = ap (λ r. entry_answers r (without_gap n) (seen s back)) h
+pub first-lost : (s : Spot) (n : Entry) (back : List Entry) → spot_cmp s n.position ≡ Less → finding_in s (lose_first_gap (n ∷ back)) ≡ finding_of lost_mark None
+first-lost s n back h = ap (λ r. entry_answers r (without_gap n) (finding_in s back)) h
 
 -- what is known now was known before with the same content
 abbrev pub KnownBefore : List Version → List Version → Type 0
-KnownBefore before now = (s : Spot) → IsTrue (flagged Cache (states_at s now)) → IsTrue (flagged Cache (states_at s before)) × (content (states_at s now) ≡ content (states_at s before))
+KnownBefore before now = (s : Spot) → IsTrue (has_flag Cache (states_at s now)) → IsTrue (has_flag Cache (states_at s before)) × (content (states_at s now) ≡ content (states_at s before))
 
 known_both : (us vs ws : List Version) → KnownBefore us vs → KnownBefore vs ws → KnownBefore us ws
 known_both us vs ws h k s f = let a = k s f in let b = h s a.0 in (b.0, a.1 ∙ b.1)
 
-alike_flagged : (us vs : List SpotState) → Alike (through vs) (through us) → flagged Cache vs ≡ flagged Cache us
+alike_flagged : (us vs : List SpotState) → Alike (through vs) (through us) → has_flag Cache vs ≡ has_flag Cache us
 alike_flagged us vs h = flagged-through Cache vs ∙ ap (flag_over Cache) h.0 ∙ sym (flagged-through Cache us)
 
 alike_known : (us vs : List Version) → IsSeenAlike us vs → KnownBefore us vs
@@ -276,5 +276,5 @@ inherit_two a b c d m h k = (
   record { statics = (alike_inherit _ _ _ _ m.statics h.statics k.statics).1; clustered = λ s. (alike_inherit _ _ _ _ (m.clustered s) (h.clustered s) (k.clustered s)).1 },
 )
 
-pub unit-inherits : (front back : List Version) (v w : Version) → IsVersion v → IsVersion w → EachOf AllInherit (front ++ v ∷ w ∷ back) → EachOf AllInherit (front ++ (cleaned v w ++ back))
+pub unit-inherits : (front back : List Version) (v w : Version) → IsVersion v → IsVersion w → EachOf AllInherit (front ++ v ∷ w ∷ back) → EachOf AllInherit (front ++ (cleaned_versions v w ++ back))
 unit-inherits front back v w i j h = unit-kept (EachOf AllInherit) front back (λ a b c d m k. each_two AllInherit front back a b c d k (inherit_two a b c d m)) (λ a b s t k. each_less AllInherit front (b ∷ back) a k) v w i j h

@@ -29,7 +29,7 @@ use Rattle.rc_core.specs.Unit.{Adds, IsInside, IsStretch, IsUnit, source_at_spot
 use Rattle.rc_core.specs.laws.GivenUp.{source_at_end}
 use Rattle.rc_core.specs.laws.Losing.{tomb-alone}
 use Rattle.rc_core.specs.laws.Placed.{unit-at-place}
-use Rattle.rc_units.specs.Update.{unit_place, fragment_head, fragment_statics, Precedes, IsFragmentOf, updated}
+use Rattle.rc_units.specs.Update.{unit_place, fragment_head, fragment_statics, Precedes, IsFragmentOf, updated_version}
 use Rattle.rc_units.proofs.Cuts.{precedes-le, updated-place}
 use Rattle.rc_units.proofs.Putting.{less_or_not, none_listed, unit-before, unit-within, unit-behind, unit-end}
 
@@ -46,14 +46,14 @@ at-the-end x off = end_of (pos_cmp x end_position) x refl off
 -- ---- the static row and the head of the version
 
 module _ (force : Option Tomb) (next : Place) (v : Version) where
-  statics_before : (f : Frag) → place_cmp Static (unit_place f) ≡ Less → static_state (updated force f next v) ≡ static_state v
+  statics_before : (f : Frag) → place_cmp Static (unit_place f) ≡ Less → static_state (updated_version force f next v) ≡ static_state v
   statics_before (frag.Start pt) l = absurd (cc)
   statics_before (frag.Static row) l = absurd (cc)
   statics_before (frag.Row key row) l = refl
   statics_before (frag.Change from tomb) l = refl
   statics_before frag.End l = refl
 
-  statics_within : (f : Frag) → IsSilentFrom (unit_place f) v → (place_cmp Static (unit_place f) ≡ Less → ⊥) → Precedes f next → static_state (updated force f next v) ≡ spot_state Inherit (fragment_statics f) []
+  statics_within : (f : Frag) → IsSilentFrom (unit_place f) v → (place_cmp Static (unit_place f) ≡ Less → ⊥) → Precedes f next → static_state (updated_version force f next v) ≡ spot_state Inherit (fragment_statics f) []
   statics_within (frag.Start pt) silent off p = silent.statics off
   statics_within (frag.Static row) silent off p =
       let e = silent.statics off in
@@ -62,28 +62,28 @@ module _ (force : Option Tomb) (next : Place) (v : Version) where
   statics_within (frag.Change from tomb) silent off p = absurd (off refl)
   statics_within frag.End silent off p = absurd p
 
-  statics_behind : (f : Frag) → Precedes f next → (place_cmp Static next ≡ Less → ⊥) → static_state (updated force f next v) ≡ static_state v
+  statics_behind : (f : Frag) → Precedes f next → (place_cmp Static next ≡ Less → ⊥) → static_state (updated_version force f next v) ≡ static_state v
   statics_behind (frag.Start pt) p off = refl
   statics_behind (frag.Static row) p off = absurd (off p)
   statics_behind (frag.Row key row) p off = refl
   statics_behind (frag.Change from tomb) p off = refl
   statics_behind frag.End p off = refl
 
-  head_before : (f : Frag) → place_cmp Head (unit_place f) ≡ Less → (updated force f next v).pt ≡ v.pt
+  head_before : (f : Frag) → place_cmp Head (unit_place f) ≡ Less → (updated_version force f next v).pt ≡ v.pt
   head_before (frag.Start pt) l = absurd (cc)
   head_before (frag.Static row) l = refl
   head_before (frag.Row key row) l = refl
   head_before (frag.Change from tomb) l = refl
   head_before frag.End l = refl
 
-  head_within : (f : Frag) → IsSilentFrom (unit_place f) v → (place_cmp Head (unit_place f) ≡ Less → ⊥) → (updated force f next v).pt ≡ fragment_head f
+  head_within : (f : Frag) → IsSilentFrom (unit_place f) v → (place_cmp Head (unit_place f) ≡ Less → ⊥) → (updated_version force f next v).pt ≡ fragment_head f
   head_within (frag.Start pt) silent off = ap (λ t. greater tomb_cmp t pt) (silent.head off)
   head_within (frag.Static row) silent off = absurd (off refl)
   head_within (frag.Row key row) silent off = absurd (off refl)
   head_within (frag.Change from tomb) silent off = absurd (off refl)
   head_within frag.End silent off = absurd (off refl)
 
-  head_behind : (f : Frag) → Precedes f next → (place_cmp Head next ≡ Less → ⊥) → (updated force f next v).pt ≡ v.pt
+  head_behind : (f : Frag) → Precedes f next → (place_cmp Head next ≡ Less → ⊥) → (updated_version force f next v).pt ≡ v.pt
   head_behind (frag.Start pt) p off = absurd (off p)
   head_behind (frag.Static row) p off = refl
   head_behind (frag.Row key row) p off = refl
@@ -106,7 +106,7 @@ end-says change x b = subst (λ y. (joined_row [], greatest tomb_cmp []) ≡ sou
 
 module _ (change : Mutation) (force : Option Tomb) (f : Frag) (next : Place) (v : Version) (i : IsVersion v) (a : IsAtPlace (unit_place f) v) (st : IsFragmentOf change force f next) where
   abbrev unit : Version
-  unit = updated force f next v
+  unit = updated_version force f next v
 
   said_on : (x : Pos) → IsStretch (unit_place f) next (Clustered x) → Adds (state_at (On x) unit) (source_at (change ∷ []) x)
   said_on x w = ⊎_elim

@@ -11,7 +11,7 @@ use Rattle.rc_position.specs.laws.Bounds.{last_pos-greatest}
 use Rattle.rc_core.specs.declared.entries.Entry.{Entry}
 use Rattle.rc_core.specs.declared.entries.Flag.{Flag}
 use Rattle.rc_core.specs.Version.{Ascend, EndsWithDummy, Version, IsVersion, end_position}
-use Rattle.rc_core.specs.Change.{split, lose_first_gap}
+use Rattle.rc_core.specs.Change.{gap_split, lose_first_gap}
 use Rattle.rc_core.specs.Continuity.{with_entries}
 use Rattle.rc_core.specs.laws.Order.{ascend-map, split-ascends, split-ends}
 use Rattle.rc_core.specs.laws.Spots.{turn_to}
@@ -46,10 +46,10 @@ module _ (e n : Entry) (lt : IsBefore e.position n.position) where
   entry_last Greater y h at_end none = no_row_of (pos_cmp y.position n.position) n y none
 
   merge_entry-ascends : (w : List Entry) → Ascend w → Ascend (merge_entry e n w)
-  merge_entry-ascends w a = ascend-map (entry_onto e n) (entry_onto-keeps e n) (split n.position (split e.position w)) (split-ascends n.position (split e.position w) (split-ascends e.position w a))
+  merge_entry-ascends w a = ascend-map (entry_onto e n) (entry_onto-keeps e n) (gap_split n.position (gap_split e.position w)) (split-ascends n.position (gap_split e.position w) (split-ascends e.position w a))
 
   merge_entry-ends : (w : List Entry) → EndsWithDummy w → EndsWithDummy (merge_entry e n w)
-  merge_entry-ends w d = map-ends (entry_onto e n) (entry_onto-keeps e n) (λ y at none. entry_last (pos_cmp y.position e.position) y refl at none) (split n.position (split e.position w)) (split-ends n.position (split e.position w) (split-ends e.position w d))
+  merge_entry-ends w d = map-ends (entry_onto e n) (entry_onto-keeps e n) (λ y at none. entry_last (pos_cmp y.position e.position) y refl at none) (gap_split n.position (gap_split e.position w)) (split-ends n.position (gap_split e.position w) (split-ends e.position w d))
 
   pub merge_entry-version : (w : Version) → IsVersion w → IsVersion (with_entries (merge_entry e n w.entries) w)
   merge_entry-version w i = record { ascend = merge_entry-ascends w.entries i.ascend; ends = merge_entry-ends w.entries i.ends }

@@ -20,7 +20,7 @@ use Rattle.rc_core.specs.laws.Placed.{new-at-place}
 use Rattle.rc_core.specs.laws.Units.{unit-continuous, unit-known}
 use Rattle.rc_core.specs.laws.Updates.{more-says, wider-hold}
 use Rattle.rc_core.specs.laws.Updating.{begun, ended}
-use Rattle.rc_units.specs.Update.{AreFragmentsOf, force_after, unit_place, updated, updated_by}
+use Rattle.rc_units.specs.Update.{AreFragmentsOf, force_after, unit_place, updated_by, updated_version}
 use Rattle.rc_units.proofs.Cuts.{updated-version}
 use Rattle.rc_units.proofs.Fragmented.{are-stretches}
 use Rattle.rc_units.proofs.Updates.{unit-is, unit-placed}
@@ -46,18 +46,18 @@ module _ (writes : List Mutation) (change : Mutation) (older : List Version) whe
       IsContinuous (Some (unit_place f)) (writes ++ change ∷ []) (older ++ v ∷ []) → IsContinuous (Some (last_place f fs)) (writes ++ change ∷ []) (older ++ updated_by force (f ∷ fs) v ∷ [])
   run-continuous k [] force f v st i a c = c
   run-continuous k (g ∷ gs) force f v st i a c =
-      run-continuous k gs (force_after force f) g (updated force f (unit_place g) v) st.1
+      run-continuous k gs (force_after force f) g (updated_version force f (unit_place g) v) st.1
       (updated-version force f (unit_place g) v i) (unit-placed change force f (unit_place g) v i a st.0)
-      (unit-continuous writes (writes ++ change ∷ []) change older v (updated force f (unit_place g) v) (unit_place f) (unit_place g) (unit-is change force f (unit_place g) v i a st.0) k c (same-as-itself (writes ++ change ∷ [])))
+      (unit-continuous writes (writes ++ change ∷ []) change older v (updated_version force f (unit_place g) v) (unit_place f) (unit_place g) (unit-is change force f (unit_place g) v i a st.0) k c (same-as-itself (writes ++ change ∷ [])))
 
   -- what is known below stays known before the place
   run-known : (x : Pos) → IsKnown Cache older x → (fs : List Frag) (force : Option Tomb) (f : Frag) (v : Version) → AreFragmentsOf change force (f ∷ fs) → IsVersion v → IsAtPlace (unit_place f) v →
       (place_cmp (Clustered x) (unit_place f) ≡ Less → IsKnown Cache (older ++ v ∷ []) x) → place_cmp (Clustered x) (last_place f fs) ≡ Less → IsKnown Cache (older ++ updated_by force (f ∷ fs) v ∷ []) x
   run-known x k [] force f v st i a c = c
   run-known x k (g ∷ gs) force f v st i a c =
-      run-known x k gs (force_after force f) g (updated force f (unit_place g) v) st.1
+      run-known x k gs (force_after force f) g (updated_version force f (unit_place g) v) st.1
       (updated-version force f (unit_place g) v i) (unit-placed change force f (unit_place g) v i a st.0)
-      (λ l. unit-known writes writes change older v (updated force f (unit_place g) v) (unit_place f) (unit_place g) (unit-is change force f (unit_place g) v i a st.0) x l k c)
+      (λ l. unit-known writes writes change older v (updated_version force f (unit_place g) v) (unit_place f) (unit_place g) (unit-is change force f (unit_place g) v i a st.0) x l k c)
 
   abbrev behind_head : List Frag
   behind_head = static_fragment change.statics ++ in_order (list_map placed_row change.rows ++ list_map placed_change (changes_of change.ranges))

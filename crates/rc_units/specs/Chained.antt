@@ -8,23 +8,23 @@ use Rattle.std.specs.Prelude.{◌≡◌, ◌+◌, ◌++◌, ℕ, zero, suc, Bool
 use Rattle.rc_cell.specs.Orders.{tomb_cmp}
 use Rattle.rc_cell.specs.Winner.{greatest}
 use Rattle.rc_core.specs.declared.entries.ChainKind.TheVariants.{Cache}
-use Rattle.rc_core.specs.Chain.{states_at, content, flagged}
+use Rattle.rc_core.specs.Chain.{states_at, content, has_flag}
 use Rattle.rc_core.specs.Chains.{Chain}
 use Rattle.rc_core.specs.Continuity.{version_tombs, static_states}
-use Rattle.rc_core.specs.Steps.{renumbered}
+use Rattle.rc_core.specs.Steps.{number_after_removal}
 use Rattle.rc_core.specs.Version.{Spot, Version}
 use Rattle.rc_units.specs.Clean.{MayMerge, units_of}
 
 -- the number of a version, once a unit left these of the version of number i and the next
 abbrev pub number_left : List Version → ℕ → ℕ → ℕ
 number_left [] i j = j
-number_left (w ∷ []) i j = renumbered i j
+number_left (w ∷ []) i j = number_after_removal i j
 number_left (v ∷ w ∷ more) i j = j
 
 -- the pins then
 abbrev pub pins_left : List Version → ℕ → List (Option ℕ) → List (Option ℕ)
 pins_left [] i pins = pins
-pins_left (w ∷ []) i pins = list_map (option_map (renumbered i)) pins
+pins_left (w ∷ []) i pins = list_map (option_map (number_after_removal i)) pins
 pins_left (v ∷ w ∷ more) i pins = pins
 
 -- the chain with the versions that a unit left of the two between `front` and `back`
@@ -39,8 +39,8 @@ chain_left front left back c = record {
 
 -- what is known now was known before with the same content, and the head stays
 pub record IsKnownAsBefore (before now : List Version) : Type 0 where
-  pub statics : IsTrue (flagged Cache (static_states now)) → IsTrue (flagged Cache (static_states before)) × (content (static_states now) ≡ content (static_states before))
-  pub clustered : (s : Spot) → IsTrue (flagged Cache (states_at s now)) → IsTrue (flagged Cache (states_at s before)) × (content (states_at s now) ≡ content (states_at s before))
+  pub statics : IsTrue (has_flag Cache (static_states now)) → IsTrue (has_flag Cache (static_states before)) × (content (static_states now) ≡ content (static_states before))
+  pub clustered : (s : Spot) → IsTrue (has_flag Cache (states_at s now)) → IsTrue (has_flag Cache (states_at s before)) × (content (states_at s now) ≡ content (states_at s before))
   pub head : greatest tomb_cmp (version_tombs now) ≡ greatest tomb_cmp (version_tombs before)
 
 -- ---- that cleaning ends

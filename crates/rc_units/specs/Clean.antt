@@ -1,7 +1,7 @@
 -- A unit of the cleaner: a part of a version that nobody reads goes under the next newer version.
 --     onto_by                  what an entry of the newer version takes from an entry that is merged, by where it stands against it
 --     merge_entry, merge_end_dummy    the newer version's entries, after the first entry, or the end dummy, has gone under them
---     cleaned                  the two versions after a unit, or the newer one alone where the older one is dropped
+--     cleaned_versions         the two versions after a unit, or the newer one alone where the older one is dropped
 --     cleaned_without_room     the same where there is no room for dummies
 --     clean_times              after as many units as are asked for
 use Rattle.std.specs.Prelude.{◌<◌, ◌≡◌, ◌+◌, ℕ, zero, suc, List, [], ◌∷◌, Option, Some, None, length, map as list_map}
@@ -17,7 +17,7 @@ use Rattle.rc_core.specs.declared.entries.Entry.{Entry}
 use Rattle.rc_core.specs.declared.entries.Flag.TheVariants.{Inherit}
 use Rattle.rc_core.specs.declared.entries.Mark.{Mark}
 use Rattle.rc_core.specs.Version.{Version}
-use Rattle.rc_core.specs.Change.{dummy, split, lose_first_gap}
+use Rattle.rc_core.specs.Change.{dummy, gap_split, lose_first_gap}
 use Rattle.rc_core.specs.Chains.{Chain, IsPinned, IsUpdating}
 use Rattle.rc_core.specs.Plain.{flag_under, mark_under, no_mark, row_under}
 use Rattle.rc_core.specs.Continuity.{with_entries, without_statics}
@@ -56,7 +56,7 @@ end_onto e y = onto_by (pos_cmp y.position e.position) e y y
 
 -- the newer version's entries with the first entry of the older one, its gap, and the gap before its successor under them
 abbrev pub merge_entry : Entry → Entry → List Entry → List Entry
-merge_entry e n newer = list_map (entry_onto e n) (split n.position (split e.position newer))
+merge_entry e n newer = list_map (entry_onto e n) (gap_split n.position (gap_split e.position newer))
 
 -- the newer version's entries with the older one's end dummy under them
 abbrev pub merge_end_dummy : Entry → List Entry → List Entry
@@ -92,8 +92,8 @@ end_merged e v w = record {
 }
 
 -- what an older version has left whose end dummy was merged: its partition tombstone
-abbrev pub emptied : Entry → Version → Version
-emptied e v = record { pt = v.pt; statics = None; static_flag = Inherit; entries = dummy e.position no_mark ∷ []; phase = v.phase }
+abbrev pub emptied_version : Entry → Version → Version
+emptied_version e v = record { pt = v.pt; statics = None; static_flag = Inherit; entries = dummy e.position no_mark ∷ []; phase = v.phase }
 
 -- what follows a merged entry: other entries, or the end dummy alone, with which the older version is dropped in the same unit
 abbrev pub entry_cleaned : Entry → Entry → List Entry → Version → Version → List Version
@@ -108,8 +108,8 @@ cleaned_by None (e ∷ []) v w = end_merged e v w ∷ []
 cleaned_by None (e ∷ n ∷ back) v w = entry_cleaned e n back v w
 
 -- the versions that a unit makes of two
-abbrev pub cleaned : Version → Version → List Version
-cleaned v w = cleaned_by v.statics v.entries v w
+abbrev pub cleaned_versions : Version → Version → List Version
+cleaned_versions v w = cleaned_by v.statics v.entries v w
 
 -- without room a memtable is left unmerged, and of a cache the static row or the first entry is lost; an end dummy needs no room
 abbrev pub cache_cleaned_by : Option Row → List Entry → Version → Version → List Version
@@ -150,4 +150,4 @@ further f (v ∷ w ∷ x ∷ more) = v ∷ w ∷ x ∷ more
 -- the versions after so many units
 abbrev pub clean_times : ℕ → Version → Version → List Version
 clean_times zero v w = v ∷ w ∷ []
-clean_times (suc k) v w = further (clean_times k) (cleaned v w)
+clean_times (suc k) v w = further (clean_times k) (cleaned_versions v w)

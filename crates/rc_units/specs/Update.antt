@@ -3,7 +3,7 @@
 --     force_after          the range tombstone in force behind a fragment
 --     fragment_state, ..    what a fragment says at the places from its own on and before the next one's
 --     IsFragmentOf         a fragment says there what the mutation says; AreFragmentsOf: each of some fragments does
---     updated, updated_by  the newest version after a unit, and after units one after another
+--     updated_version, updated_by  the newest version after a unit, and after units one after another
 --     lost_from            the same without room: from the place on everything is Unknown
 use Rattle.std.specs.Prelude.{◌≡◌, ◌&&◌, Bool, List, [], ◌∷◌, Option, Some, None, cond, map as list_map}
 use Rattle.std.specs.declared.cmp.Ordering.TheVariants.{Less, Greater}
@@ -24,7 +24,7 @@ use Rattle.rc_core.specs.declared.entries.Entry.{Entry}
 use Rattle.rc_core.specs.declared.entries.Flag.TheVariants.{Unknown, Inherit}
 use Rattle.rc_core.specs.SpotState.{SpotState, spot_state, joined_state}
 use Rattle.rc_core.specs.Version.{Spot, On, Behind, Version, end_position}
-use Rattle.rc_core.specs.Change.{change, join_row_at, joined_onto, lost_mark, raised_mark, split}
+use Rattle.rc_core.specs.Change.{change, gap_split, join_row_at, joined_onto, lost_mark, raised_mark}
 use Rattle.rc_core.specs.Continuity.{with_entries}
 use Rattle.rc_core.specs.Unit.{IsStretch}
 
@@ -106,7 +106,7 @@ AreFragmentsOf change force (f ∷ g ∷ fs) = IsFragmentOf change force f (unit
 abbrev pub split_at : Place → List Entry → List Entry
 split_at Head entries = entries
 split_at Static entries = entries
-split_at (Clustered x) entries = split x entries
+split_at (Clustered x) entries = gap_split x entries
 split_at End entries = entries
 
 -- the tombstone in force joined from one position on and before the next place, at which a dummy is left
@@ -125,30 +125,30 @@ fragment_entries force (frag.Change from tomb) next entries = raise_upto tomb fr
 fragment_entries force frag.End next entries = entries
 
 -- the newest version after that unit
-abbrev pub updated : Option Tomb → Frag → Place → Version → Version
-updated force (frag.Start pt) next v = record {
+abbrev pub updated_version : Option Tomb → Frag → Place → Version → Version
+updated_version force (frag.Start pt) next v = record {
   pt = greater tomb_cmp v.pt pt;
   statics = v.statics;
   static_flag = v.static_flag;
   entries = fragment_entries force (frag.Start pt) next v.entries;
   phase = v.phase;
 }
-updated force (frag.Static row) next v = record {
+updated_version force (frag.Static row) next v = record {
   pt = v.pt;
   statics = Some (joined_onto v.statics row);
   static_flag = v.static_flag;
   entries = fragment_entries force (frag.Static row) next v.entries;
   phase = v.phase;
 }
-updated force (frag.Row key row) next v = with_entries (fragment_entries force (frag.Row key row) next v.entries) v
-updated force (frag.Change from tomb) next v = with_entries (fragment_entries force (frag.Change from tomb) next v.entries) v
-updated force frag.End next v = v
+updated_version force (frag.Row key row) next v = with_entries (fragment_entries force (frag.Row key row) next v.entries) v
+updated_version force (frag.Change from tomb) next v = with_entries (fragment_entries force (frag.Change from tomb) next v.entries) v
+updated_version force frag.End next v = v
 
 -- after the units of fragments, one after another; that of the last one, the end, changes nothing
 abbrev pub updated_by : Option Tomb → List Frag → Version → Version
 updated_by force [] v = v
 updated_by force (f ∷ []) v = v
-updated_by force (f ∷ g ∷ fs) v = updated_by (force_after force f) (g ∷ fs) (updated force f (unit_place g) v)
+updated_by force (f ∷ g ∷ fs) v = updated_by (force_after force f) (g ∷ fs) (updated_version force f (unit_place g) v)
 
 -- ---- a unit without room
 

@@ -3,7 +3,7 @@
 ghost use Rattle.std.specs.Prelude.{◌≡◌, ◌++◌, ◌∷◌, [], IfOk, OnOk, None, cond};
 ghost use Rattle.std.specs.Ordering.{eq_by_cmp};
 ghost use Rattle.rc_position.specs.Position.{pos_cmp};
-ghost use Rattle.rc_core.specs.Change.{at_entry, dummy, join_row_at, joined_onto, split, with_row};
+ghost use Rattle.rc_core.specs.Change.{at_entry, dummy, gap_split, join_row_at, joined_onto, with_row};
 ghost use Rattle.rc_core.specs.Continuity.{joined_options};
 ghost use Rattle.rc_units.specs.Clean.{onto_at, onto_gap};
 ghost use Rattle.rc_core.specs.Plain.{mark_under, row_under};
@@ -58,7 +58,7 @@ fn append_copies(alloc: Global, made: &mut Vec<Entry>, entries: &[Entry]) -> Res
 /// The entries with a dummy at a position, where none stands there and one stands behind it: the dummy says what the gap said in which it is
 /// made. The only error is want of memory.
 pub fn split_entries(alloc: Global, at: &Pos, entries: &[Entry]) -> Result<Vec<Entry>, AllocError>
-    ensures { IfOk result (λ made. made.items ≡ split at.now entries.now) }
+    ensures { IfOk result (λ made. made.items ≡ gap_split at.now entries.now) }
 {
     let mut made = Vec::new(alloc);
     let mut left = entries;

@@ -3,7 +3,7 @@
 ghost use Rattle.std.specs.Prelude.{◌≡◌, IfOk, map};
 ghost use Rattle.std.specs.Ordering.{is_lt};
 ghost use Rattle.rc_position.specs.Position.{Clustered, pos_cmp};
-ghost use Rattle.rc_core.specs.Change.{change, changed, raised_mark};
+ghost use Rattle.rc_core.specs.Change.{change, entry_changed, raised_mark};
 ghost use Rattle.rc_core.specs.Version.{end_position};
 ghost use Rattle.rc_units.specs.Update.{force_after, fragment_entries, lost_behind};
 
@@ -77,7 +77,7 @@ fn raise_entry(
     to: &Pos,
     entry: &Entry,
 ) -> Result<Entry, AllocError>
-    ensures { IfOk result (λ made. made ≡ changed (raised_mark tomb) from.now to.now entry.now) }
+    ensures { IfOk result (λ made. made ≡ entry_changed (raised_mark tomb) from.now to.now entry.now) }
 {
     let mut made = copy_entry(alloc, entry)?;
     if *from <= entry.position && entry.position < *to {

@@ -2,7 +2,7 @@
 use Rattle.std.proofs.Common.{inl, inr, ◌≡◌, ◌⊎◌, ℕ, zero, suc, Option, Some, None, refl, sym, ap, ◌∙◌, subst, slice_index_or, arith}
 use Rattle.std.specs.Prelude.{IfSome, IsSomeAnd}
 use Rattle.std.specs.Option.{option_map}
-use Rattle.rc_registry.specs.Registry.{put}
+use Rattle.rc_registry.specs.Registry.{put_at_number}
 use Rattle.rc_memory.specs.Memory.{KeptChain, Memory, chain_at, on_chain}
 use Rattle.rc_memory.specs.laws.Put.{put-at, put-beside}
 
@@ -14,13 +14,13 @@ same-or-not (suc i) zero = inr (λ e. omega (arith, e))
 same-or-not (suc i) (suc j) = elim (same-or-not i j) [ inl e ↦ inl (ap suc e) | inr ne ↦ inr (λ e. ne (omega (arith, e))) ]
 
 -- what was put at a number is there, and others are as they were
-pub chain-put : (m n : Memory) (id : ℕ) (c : Option KeptChain) → n.chains ≡ put id c m.chains → chain_at n id ≡ c
+pub chain-put : (m n : Memory) (id : ℕ) (c : Option KeptChain) → n.chains ≡ put_at_number id c m.chains → chain_at n id ≡ c
 chain-put m n id c is = ap (λ cs. slice_index_or cs id None) is ∙ put-at m.chains id c
 
 pub chain-done : (m n : Memory) (id : ℕ) (f : KeptChain → KeptChain) → n.chains ≡ on_chain id f m.chains → chain_at n id ≡ option_map f (chain_at m id)
 chain-done m n id f is = chain-put m n id (option_map f (chain_at m id)) is
 
-pub chain-beside : (m n : Memory) (id : ℕ) (c : Option KeptChain) (i : ℕ) → n.chains ≡ put id c m.chains → (i ≡ id → ⊥) → chain_at n i ≡ chain_at m i
+pub chain-beside : (m n : Memory) (id : ℕ) (c : Option KeptChain) (i : ℕ) → n.chains ≡ put_at_number id c m.chains → (i ≡ id → ⊥) → chain_at n i ≡ chain_at m i
 chain-beside m n id c i is ne = ap (λ cs. slice_index_or cs i None) is ∙ put-beside m.chains id c i ne
 
 pub chain-same : (m n : Memory) → n.chains ≡ m.chains → (i : ℕ) → chain_at n i ≡ chain_at m i

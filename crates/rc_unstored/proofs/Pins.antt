@@ -2,7 +2,7 @@
 use Rattle.std.proofs.Common.{inl, inr, ◌≡◌, ℕ, true, false, List, Option, Some, None, IsSome, is_some, refl, sym, ap, ◌∙◌, subst}
 use Rattle.std.specs.Prelude.{IfSome, IsSomeAnd}
 use Rattle.std.specs.Option.{option_map}
-use Rattle.rc_core.specs.Steps.{free_number, pin_at, pinned, released}
+use Rattle.rc_core.specs.Steps.{free_number, pin_at, pins_with, pins_without}
 use Rattle.rc_core.specs.laws.Pins.{pin-freed, pin-is-pinned, pin-kept, pin-others, pin-was-free}
 use Rattle.rc_registry.specs.Registry.{AreFree}
 use Rattle.rc_memory.specs.Memory.{KeptChain, Memory, chain_at, on_shown, shown_detached, snapshot_number, with_snapshot, without_snapshot}
@@ -78,14 +78,14 @@ gone-in (Some k) pin on = let e : false ≡ true = sym (ap is_some (pin-freed pi
 
 -- ---- one that was taken is given back
 
-pins-back : (version : ℕ) (ps : List (Option ℕ)) (i : ℕ) → pin_at (released (free_number ps) (pinned version ps)) i ≡ pin_at ps i
+pins-back : (version : ℕ) (ps : List (Option ℕ)) (i : ℕ) → pin_at (pins_without (free_number ps) (pins_with version ps)) i ≡ pin_at ps i
 pins-back version ps i = elim (same-or-not i (free_number ps)) [
-  | inl same ↦ subst (λ (j : ℕ). pin_at (released (free_number ps) (pinned version ps)) j ≡ pin_at ps j) (sym same) (pin-freed (free_number ps) (pinned version ps) ∙ sym (pin-was-free ps))
-  | inr ne ↦ pin-kept (free_number ps) i (pinned version ps) ne ∙ pin-others version ps i ne
+  | inl same ↦ subst (λ (j : ℕ). pin_at (pins_without (free_number ps) (pins_with version ps)) j ≡ pin_at ps j) (sym same) (pin-freed (free_number ps) (pins_with version ps) ∙ sym (pin-was-free ps))
+  | inr ne ↦ pin-kept (free_number ps) i (pins_with version ps) ne ∙ pin-others version ps i ne
 ]
 
 pub same-back : (k : KeptChain) (pin : ℕ) → pin ≡ free_number k.chain.pins → (i : ℕ) → pin_at (without_snapshot pin (with_one k)).chain.pins i ≡ pin_at k.chain.pins i
-same-back k pin e i = ap (λ (j : ℕ). pin_at (released j (pinned (snapshot_number k.chain) k.chain.pins)) i) e ∙ pins-back (snapshot_number k.chain) k.chain.pins i
+same-back k pin e i = ap (λ (j : ℕ). pin_at (pins_without j (pins_with (snapshot_number k.chain) k.chain.pins)) i) e ∙ pins-back (snapshot_number k.chain) k.chain.pins i
 
 pub back-in : (o : Option KeptChain) (pin : ℕ) → IfSome o (λ k. pin ≡ free_number k.chain.pins) → KeptIn o (option_map (without_snapshot pin) (option_map with_one o))
 back-in None pin number i on = absurd on

@@ -14,7 +14,7 @@ use Rattle.rc_rowcode.specs.laws.Fields.{length_codec}
 use Rattle.rc_rowcode.specs.laws.Read.{one_spelling}
 use Rattle.rc_tfile.specs.Items.{Item, HeadItem, PartItem, RowItem, ChangeItem, EndItem, StopItem, EntryItem, BlockItem, TailItem, item_code, offset_code, IsItem, bytes_code, IsPartKey}
 use Rattle.rc_tfile.specs.Before.{ItemsBefore, ItemPlace, Start, Between, Inside, Behind, item_place}
-use Rattle.rc_tfile.specs.Blocks.{due}
+use Rattle.rc_tfile.specs.Blocks.{items_due}
 use Rattle.rc_tfile.specs.TableText.{MayStand, ItemFits}
 use Rattle.rc_tfile.specs.laws.Starting.{IsOptional, rest_of, both_free, key_free, full_key_free, pos_free, row_free, optional_free}
 
@@ -42,7 +42,7 @@ home (EntryItem key off blocks) = Behind
 home (BlockItem b) = Behind
 home (TailItem off parts) = Behind
 
-due_behind : (before : ItemsBefore) (x : Item) → ((more : List Item) × (due before ≡ x ∷ more)) → item_place before ≡ Behind
+due_behind : (before : ItemsBefore) (x : Item) → ((more : List Item) × (items_due before ≡ x ∷ more)) → item_place before ≡ Behind
 due_behind [] x d = absurd (let q : [] ≡ x ∷ d.0 = d.1 in cc)
 due_behind (HeadItem schema ∷ before) x d = absurd (let q : [] ≡ x ∷ d.0 = d.1 in cc)
 due_behind (PartItem key pt statics ∷ before) x d = absurd (let q : [] ≡ x ∷ d.0 = d.1 in cc)
@@ -130,7 +130,7 @@ end_one : (y : Item) → Inside ≡ home y → Same EndItem y
 end_one = at_inside (Same EndItem) (λ k r m n f g e. absurd cc) (λ x t m n f g e. absurd cc) (λ m n f g e. refl)
 
 module _ (schema : SchemaValue) (before : ItemsBefore) where
-  due_there : (x : Item) → Behind ≡ home x → MayStand schema before x → (more : List Item) × (due before ≡ x ∷ more)
+  due_there : (x : Item) → Behind ≡ home x → MayStand schema before x → (more : List Item) × (items_due before ≡ x ∷ more)
   due_there (HeadItem other) e h = absurd cc
   due_there (PartItem key pt statics) e h = absurd cc
   due_there (RowItem key row) e h = absurd cc
@@ -142,7 +142,7 @@ module _ (schema : SchemaValue) (before : ItemsBefore) where
   due_there (TailItem off parts) e h = h
 
   -- what is due is one item
-  due_one : (x y : Item) → ((more : List Item) × (due before ≡ x ∷ more)) → ((more : List Item) × (due before ≡ y ∷ more)) → x ≡ y
+  due_one : (x y : Item) → ((more : List Item) × (items_due before ≡ x ∷ more)) → ((more : List Item) × (items_due before ≡ y ∷ more)) → x ≡ y
   due_one x y d c = let q : x ∷ d.0 ≡ y ∷ c.0 = sym d.1 ∙ c.1 in cc
 
   same_home : (x y : Item) → ItemFits schema before x → ItemFits schema before y → home x ≡ home y

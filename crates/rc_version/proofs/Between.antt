@@ -9,7 +9,7 @@ use Rattle.lsa_region.specs.Region.{View}
 use Rattle.lsa_path.specs.laws.Members.{member-cases, member-split}
 use Rattle.lsa_tree.specs.Entries.{AreAscending, IsEntryAtPosition, StandsEarlier}
 use Rattle.lsa_tree.specs.laws.Orders.{all-at, ascending-split, before-at, not-both, stands-once}
-use Rattle.rc_core.specs.Change.{change, changed, split, with_gap, with_mark, with_marks}
+use Rattle.rc_core.specs.Change.{change, entry_changed, gap_split, with_gap, with_mark, with_marks}
 use Rattle.rc_core.specs.Continuity.{with_entries}
 use Rattle.rc_core.specs.declared.entries.Entry.{Entry}
 use Rattle.rc_core.specs.declared.entries.Mark.{Mark}
@@ -70,7 +70,7 @@ module _ (v : View) (n first last : Ref) (from to : Pos) (f : Mark → Mark) (re
   abbrev target : List Entry
   target = w.before ++ (with_mark f w.here ∷ (map (with_marks f) z.before ++ (with_gap (f z.here.gap) z.here ∷ z.behind)))
 
-  pub stretch-marking : (target : List Entry) × IsMarking v n first last f refs c target 0 × (map (changed f from to) es ≡ target)
+  pub stretch-marking : (target : List Entry) × IsMarking v n first last f refs c target 0 × (map (entry_changed f from to) es ≡ target)
   stretch-marking = (target, marking, ranged)
     where
       marking : IsMarking v n first last f refs c target 0
@@ -94,11 +94,11 @@ module _ (v : View) (n first last : Ref) (from to : Pos) (f : Mark → Mark) (re
         far = omega arith;
       }
 
-      same : change f from to es ≡ map (changed f from to) es
-      same = ap (λ l. map (changed f from to) (split to l)) (split-here v n refs (with_entries es c) h front first rest front_is from first_at)
-          ∙ ap (map (changed f from to)) (let s = member-split refs last last_in in split-here v n refs (with_entries es c) h s.0 last s.1 s.2 to last_at)
+      same : change f from to es ≡ map (entry_changed f from to) es
+      same = ap (λ l. map (entry_changed f from to) (gap_split to l)) (split-here v n refs (with_entries es c) h front first rest front_is from first_at)
+          ∙ ap (map (entry_changed f from to)) (let s = member-split refs last last_in in split-here v n refs (with_entries es c) h s.0 last s.1 s.2 to last_at)
 
-      ranged : map (changed f from to) es ≡ target
+      ranged : map (entry_changed f from to) es ≡ target
       ranged = sym same ∙ ap (change f from to) es_is
           ∙ (λ i. change f (stands-once v first from w.here.position first_at (holds-stands v first w.here w.holds) i) (stands-once v last to z.here.position last_at (holds-stands v last z.here z.holds) i) entries)
           ∙ change-over f w.before w.here z.before z.here z.behind (subst Ascend es_is h.version.ascend)

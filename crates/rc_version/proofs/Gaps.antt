@@ -9,7 +9,7 @@ use Rattle.lsa_tree.specs.Entries.{IsEntryAtPosition, BelongsBetween}
 use Rattle.lsa_tree.specs.Search.{IsFound}
 use Rattle.lsa_tree.specs.declared.tree.Place.TheVariants.{Here}
 use Rattle.lsa_tree.specs.laws.Orders.{stands-once}
-use Rattle.rc_core.specs.Change.{at_entry, dummy, split}
+use Rattle.rc_core.specs.Change.{at_entry, dummy, gap_split}
 use Rattle.rc_core.specs.Continuity.{with_entries}
 use Rattle.rc_core.specs.declared.entries.Entry.{Entry}
 use Rattle.rc_core.specs.laws.Spots.{position-reached}
@@ -38,14 +38,14 @@ module _ (v : View) (n : Ref) (refs : List Ref) (c : Version) (h : IsVersionOf v
       ap (at_entry x f) entry-of.is ∙ subst (λ y. at_entry y f (entry-of.before ++ (entry-of.here ∷ entry-of.behind)) ≡ entry-of.before ++ (f entry-of.here ∷ entry-of.behind)) at (entry-at entry-of.before entry-of.here entry-of.behind f entries-ascend)
 
   -- where it stands at the position
-  pub split-here : (x : Pos) → IsEntryAtPosition v r x → split x c.entries ≡ c.entries
+  pub split-here : (x : Pos) → IsEntryAtPosition v r x → gap_split x c.entries ≡ c.entries
   split-here x stands =
       let at : entry-of.here.position ≡ x = stands-once v r entry-of.here.position x (holds-stands v r entry-of.here entry-of.holds) stands in
-      subst (λ es. split x es ≡ es) (sym entry-of.is) (subst (λ y. split y (entry-of.before ++ (entry-of.here ∷ entry-of.behind)) ≡ entry-of.before ++ (entry-of.here ∷ entry-of.behind)) at (split-at-entry entry-of.before entry-of.here entry-of.behind entries-ascend))
+      subst (λ es. gap_split x es ≡ es) (sym entry-of.is) (subst (λ y. gap_split y (entry-of.before ++ (entry-of.here ∷ entry-of.behind)) ≡ entry-of.before ++ (entry-of.here ∷ entry-of.behind)) at (split-at-entry entry-of.before entry-of.here entry-of.behind entries-ascend))
 
   -- and where the position lies in the gap before it
-  pub split-gap : (x : Pos) → BelongsBetween v x front (r ∷ back) → split x c.entries ≡ entry-of.before ++ (dummy x entry-of.here.gap ∷ (entry-of.here ∷ entry-of.behind))
-  split-gap x fits = ap (split x) entry-of.is ∙ split-in-gap x entry-of.before entry-of.here entry-of.behind (each-earlier v x front entry-of.before entry-of.held_before fits.before) (later-at v x r entry-of.here entry-of.holds fits.behind.0)
+  pub split-gap : (x : Pos) → BelongsBetween v x front (r ∷ back) → gap_split x c.entries ≡ entry-of.before ++ (dummy x entry-of.here.gap ∷ (entry-of.here ∷ entry-of.behind))
+  split-gap x fits = ap (gap_split x) entry-of.is ∙ split-in-gap x entry-of.before entry-of.here entry-of.behind (each-earlier v x front entry-of.before entry-of.held_before fits.before) (later-at v x r entry-of.here entry-of.holds fits.behind.0)
 
 -- one of the objects holds an entry
 pub entry-in : (v : View) (n : Ref) (refs : List Ref) (c : Version) → IsVersionOf v n refs c → (r : Ref) → Contains refs r → (e : Entry) × HoldsEntry v r e

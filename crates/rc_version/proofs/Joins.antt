@@ -19,7 +19,7 @@ use Rattle.lsa_tree.specs.Search.{IsFound}
 use Rattle.lsa_tree.specs.Tree.{IsTree, IsLoose, IsOffTree, SameButBalances}
 use Rattle.lsa_tree.specs.laws.Orders.{stands-once}
 use Rattle.rc_core.specs.AtPlace.{EachEntry}
-use Rattle.rc_core.specs.Change.{at_entry, dummy, join_row_at, joined_onto, split, with_row}
+use Rattle.rc_core.specs.Change.{at_entry, dummy, gap_split, join_row_at, joined_onto, with_row}
 use Rattle.rc_core.specs.Continuity.{with_entries}
 use Rattle.rc_core.specs.declared.entries.Entry.{Entry}
 use Rattle.rc_core.specs.declared.entries.Mark.{Mark}
@@ -27,7 +27,7 @@ use Rattle.rc_core.specs.laws.Order.{join_row-is, split-ascends}
 use Rattle.rc_core.specs.laws.Spots.{turn_to}
 use Rattle.rc_core.specs.laws.Surgery.{entry-at, seen-on}
 use Rattle.rc_core.specs.Steps.{row_joined}
-use Rattle.rc_core.specs.Version.{Version, IsVersion, Ascend, On, end_position, entry_answers, found, seen}
+use Rattle.rc_core.specs.Version.{Version, IsVersion, Ascend, On, end_position, entry_answers, finding_of, finding_in}
 use Rattle.rc_object.specs.Objects.{HasRoomFor, HoldsEntry, IsMade, entry_length, entry_of}
 use Rattle.rc_version.specs.Versions.{tree_of, CanJoin, IsJoined, IsKeptBut, IsUnlisted, IsVersionOf, IsWeighed, HasWhatWasMade, MayChange, bytes_at, entries_bytes, entry_bytes, joined_bytes, statics_bytes}
 use Rattle.rc_version.specs.laws.Holding.{IsAround, bytes-with, each-earlier, later-at}
@@ -44,16 +44,16 @@ key-before_end [] = refl
 key-before_end (c ∷ key) = refl
 
 -- in a gap no row is seen
-pub seen-gap : (x : Pos) (front : List Entry) (e : Entry) (back : List Entry) → EachEntry (λ f. IsBefore f.position x) front → IsBefore x e.position → seen (On x) (front ++ (e ∷ back)) ≡ found e.gap None
-seen-gap x [] e back before less = ap (λ r. entry_answers r e (seen (On x) back)) less
-seen-gap x (f ∷ front) e back before less = ap (λ r. entry_answers r f (seen (On x) (front ++ (e ∷ back)))) (turn_to f.position x Less before.0) ∙ seen-gap x front e back before.1 less
+pub seen-gap : (x : Pos) (front : List Entry) (e : Entry) (back : List Entry) → EachEntry (λ f. IsBefore f.position x) front → IsBefore x e.position → finding_in (On x) (front ++ (e ∷ back)) ≡ finding_of e.gap None
+seen-gap x [] e back before less = ap (λ r. entry_answers r e (finding_in (On x) back)) less
+seen-gap x (f ∷ front) e back before less = ap (λ r. entry_answers r f (finding_in (On x) (front ++ (e ∷ back)))) (turn_to f.position x Less before.0) ∙ seen-gap x front e back before.1 less
 
 -- at an entry its row
-pub seen-there : (v : View) (n : Ref) (refs : List Ref) (c : Version) (h : IsVersionOf v n refs c) (q : Ref) (x : Pos) (f : IsFound v refs x (Here q)) → seen (On x) c.entries ≡ found (entry-of v n refs c h f.0 q f.1 f.2).here.at (entry-of v n refs c h f.0 q f.1 f.2).here.row
+pub seen-there : (v : View) (n : Ref) (refs : List Ref) (c : Version) (h : IsVersionOf v n refs c) (q : Ref) (x : Pos) (f : IsFound v refs x (Here q)) → finding_in (On x) c.entries ≡ finding_of (entry-of v n refs c h f.0 q f.1 f.2).here.at (entry-of v n refs c h f.0 q f.1 f.2).here.row
 seen-there v n refs c h q x f =
     let w = entry-of v n refs c h f.0 q f.1 f.2 in
     let at : w.here.position ≡ x = stands-once v q w.here.position x (holds-stands v q w.here w.holds) f.3 in
-    ap (seen (On x)) w.is ∙ subst (λ y. seen (On y) (w.before ++ (w.here ∷ w.behind)) ≡ found w.here.at w.here.row) at (seen-on w.before w.here w.behind (entries-ascend v n refs c h f.0 q f.1 f.2))
+    ap (finding_in (On x)) w.is ∙ subst (λ y. finding_in (On y) (w.before ++ (w.here ∷ w.behind)) ≡ finding_of w.here.at w.here.row) at (seen-on w.before w.here w.behind (entries-ascend v n refs c h f.0 q f.1 f.2))
 
 -- ---- made in a gap
 
@@ -91,7 +91,7 @@ module _ (S : ℕ) (old mid new : View) (n r next : Ref) (x : Pos) (row : Row) (
     mid_tree : IsTree (tree_of n) mid (front ++ back)
     mid_tree = put-tree S old mid n r size e made held front back tree
 
-    splits : split x c.entries ≡ w.before ++ (dummy x w.here.gap ∷ (w.here ∷ w.behind))
+    splits : gap_split x c.entries ≡ w.before ++ (dummy x w.here.gap ∷ (w.here ∷ w.behind))
     splits = split-gap old n refs c h front next (place refs c h).1 is x fits
 
     joins : join_row_at x row c.entries ≡ w.before ++ (e ∷ (w.here ∷ w.behind))
@@ -99,8 +99,8 @@ module _ (S : ℕ) (old mid new : View) (n r next : Ref) (x : Pos) (row : Row) (
         ∙ entry-at w.before (dummy x w.here.gap) (w.here ∷ w.behind) (with_row row) (subst Ascend splits (split-ascends x c.entries h.version.ascend))
         ∙ ap (λ (g : Mark). w.before ++ (entry_of x (Some row) g g ∷ (w.here ∷ w.behind))) (sym (marks w.here w.holds))
 
-    seen_none : seen (On x) c.entries ≡ found w.here.gap None
-    seen_none = ap (seen (On x)) w.is ∙ seen-gap x w.before w.here w.behind (each-earlier old x front w.before w.held_before fits.before) (later-at old x next w.here w.holds fits.behind.0)
+    seen_none : finding_in (On x) c.entries ≡ finding_of w.here.gap None
+    seen_none = ap (finding_in (On x)) w.is ∙ seen-gap x w.before w.here w.behind (each-earlier old x front w.before w.held_before fits.before) (later-at old x next w.here w.holds fits.behind.0)
 
     version : IsVersionOf new n (front ++ (r ∷ back)) (row_joined x row c)
     version = subst (λ es. IsVersionOf new n (front ++ (r ∷ back)) (with_entries es c)) (sym joins)
@@ -148,7 +148,7 @@ module _ (S : ℕ) (old mid new : View) (n r next : Ref) (x : Pos) (row : Row) (
 pub gap-room : (S : ℕ) (v : View) (n next : Ref) (x : Pos) (row : Row) (space : ℕ) (refs : List Ref) (c : Version) → CanJoin S v space n x row refs c → IsFound v refs x (Before next) → HasRoomFor S v (bytes_at x (Some row)) space (entry_length x (Some row))
 gap-room S v n next x row space refs c can f =
     let w = entry-of v n refs c can.version f.0 next f.1 f.2 in
-    let none : seen (On x) c.entries ≡ found w.here.gap None = ap (seen (On x)) w.is ∙ seen-gap x w.before w.here w.behind (each-earlier v x f.0 w.before w.held_before f.3.before) (later-at v x next w.here w.holds f.3.behind.0) in
+    let none : finding_in (On x) c.entries ≡ finding_of w.here.gap None = ap (finding_in (On x)) w.is ∙ seen-gap x w.before w.here w.behind (each-earlier v x f.0 w.before w.held_before f.3.before) (later-at v x next w.here w.holds f.3.behind.0) in
     subst (λ k. HasRoomFor S v (bytes_at x (Some (joined_onto k.row row))) space (entry_length x (Some (joined_onto k.row row)))) none can.room
 
 -- where a row stands the entry is as large as both together

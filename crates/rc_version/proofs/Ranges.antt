@@ -14,7 +14,7 @@ use Rattle.lsa_tree.specs.Entries.{IsEntryAtPosition}
 use Rattle.lsa_tree.specs.laws.Orders.{stands-once}
 use Rattle.lsa_tree.specs.laws.Trees.{tree-once}
 use Rattle.lsa_tree.specs.Tree.{IsTree}
-use Rattle.rc_core.specs.Change.{changed, join_range, raised_mark, split}
+use Rattle.rc_core.specs.Change.{entry_changed, gap_split, join_range, raised_mark}
 use Rattle.rc_core.specs.Continuity.{with_entries}
 use Rattle.rc_core.specs.declared.entries.Entry.{Entry}
 use Rattle.rc_core.specs.declared.entries.Mark.{Mark}
@@ -60,7 +60,7 @@ module _ (S : ℕ) (old mid new : View) (n first last : Ref) (from to : Pos) (to
 
   module _ (refs : List Ref) (c : Version) (h : IsVersionOf old n refs c) where
     abbrev c1 : Version
-    c1 = with_entries (split from c.entries) c
+    c1 = with_entries (gap_split from c.entries) c
 
     abbrev refs1 : List Ref
     refs1 = (one.entries refs c h).0
@@ -70,22 +70,22 @@ module _ (S : ℕ) (old mid new : View) (n first last : Ref) (from to : Pos) (to
 
     -- the entries behind both splits
     abbrev pub both : List Ref
-    both = (two.entries (one.entries refs c h).0 (with_entries (split from c.entries) c) (one.entries refs c h).2).0
+    both = (two.entries (one.entries refs c h).0 (with_entries (gap_split from c.entries) c) (one.entries refs c h).2).0
 
     abbrev es : List Entry
-    es = split to (split from c.entries)
+    es = gap_split to (gap_split from c.entries)
 
     v2 : IsVersionOf new n both (with_entries es c)
-    v2 = (two.entries (one.entries refs c h).0 (with_entries (split from c.entries) c) (one.entries refs c h).2).2
+    v2 = (two.entries (one.entries refs c h).0 (with_entries (gap_split from c.entries) c) (one.entries refs c h).2).2
 
     pub both-wider : (q : Ref) → Contains refs q → Contains both q
-    both-wider q k = put-wider mid last refs1 both (two.entries (one.entries refs c h).0 (with_entries (split from c.entries) c) (one.entries refs c h).2).1 q (put-wider old first refs refs1 (one.entries refs c h).1 q k)
+    both-wider q k = put-wider mid last refs1 both (two.entries (one.entries refs c h).0 (with_entries (gap_split from c.entries) c) (one.entries refs c h).2).1 q (put-wider old first refs refs1 (one.entries refs c h).1 q k)
 
     first_in : Contains both first
-    first_in = put-wider mid last refs1 both (two.entries (one.entries refs c h).0 (with_entries (split from c.entries) c) (one.entries refs c h).2).1 first (put-member old first refs refs1 (one.entries refs c h).1)
+    first_in = put-wider mid last refs1 both (two.entries (one.entries refs c h).0 (with_entries (gap_split from c.entries) c) (one.entries refs c h).2).1 first (put-member old first refs refs1 (one.entries refs c h).1)
 
     last_in : Contains both last
-    last_in = put-member mid last refs1 both (two.entries (one.entries refs c h).0 (with_entries (split from c.entries) c) (one.entries refs c h).2).1
+    last_in = put-member mid last refs1 both (two.entries (one.entries refs c h).0 (with_entries (gap_split from c.entries) c) (one.entries refs c h).2).1
 
     first_at : IsEntryAtPosition new first from
     first_at =
@@ -93,11 +93,11 @@ module _ (S : ℕ) (old mid new : View) (n first last : Ref) (from to : Pos) (to
         subst (IsEntryAtPosition new first) (stands-once mid first e.0.position from (holds-stands mid first e.0 e.1) one.at) (holds-stands new first e.0 (two.held first e.0 e.1))
 
     pub range-marking : (target : List Entry) × IsMarking new n first last f both c target 0 × (join_range from to tomb c.entries ≡ target)
-    range-marking = stretch-marking new n first last from to f both (split to (split from c.entries)) c v2 first_in last_in first_at two.at less
+    range-marking = stretch-marking new n first last from to f both (gap_split to (gap_split from c.entries)) c v2 first_in last_in first_at two.at less
 
     pub range-live : IsWeighed old new c (range_joined from to tomb c)
     range-live = two_weighed (live_bytes old) (live_bytes mid) (live_bytes new) (version_bytes c) (version_bytes c1) (version_bytes (range_joined from to tomb c)) (one.live refs c h)
-        (two.live refs1 c1 v1 ∙ ap (λ k. live_bytes mid + (64 + (statics_bytes c.statics + k))) (sym (bytes-mapped (changed f from to) (λ e. refl) es)))
+        (two.live refs1 c1 v1 ∙ ap (λ k. live_bytes mid + (64 + (statics_bytes c.statics + k))) (sym (bytes-mapped (entry_changed f from to) (λ e. refl) es)))
 
     pub range-kept : (now : View) → IsKeptBeside (Contains both) n new now → IsKeptBut n old now
     range-kept now last_kept = kept-then (MayChange old n) n old mid now one.kept
@@ -109,7 +109,7 @@ module _ (S : ℕ) (old mid new : View) (n first last : Ref) (from to : Pos) (to
     made_first q fresh there = elim (one.own q fresh there) [
       | inl is ↦ inr (inl is)
       | inr part ↦ elim part [
-        | inl k ↦ inl (put-wider mid last refs1 both (two.entries (one.entries refs c h).0 (with_entries (split from c.entries) c) (one.entries refs c h).2).1 q (subst (λ l. Contains l q) (tree-once (tree_of n) mid k.0 refs1 k.1 v1.tree) k.2))
+        | inl k ↦ inl (put-wider mid last refs1 both (two.entries (one.entries refs c h).0 (with_entries (gap_split from c.entries) c) (one.entries refs c h).2).1 q (subst (λ l. Contains l q) (tree-once (tree_of n) mid k.0 refs1 k.1 v1.tree) k.2))
         | inr named ↦ inr (inr (two.statics ∙ named))
       ]
     ]

@@ -12,7 +12,7 @@ use Rattle.lsa_tree.specs.declared.tree.Place.TheVariants.{Before}
 use Rattle.lsa_tree.specs.Entries.{IsEntryAtPosition, BelongsBetween}
 use Rattle.lsa_tree.specs.Search.{IsFound}
 use Rattle.lsa_tree.specs.Tree.{IsTree, IsOffTree, SameButBalances}
-use Rattle.rc_core.specs.Change.{dummy, split}
+use Rattle.rc_core.specs.Change.{dummy, gap_split}
 use Rattle.rc_core.specs.Continuity.{with_entries}
 use Rattle.rc_core.specs.declared.entries.Entry.{Entry}
 use Rattle.rc_core.specs.declared.entries.Mark.{Mark}
@@ -57,10 +57,10 @@ module _ (S : ℕ) (old mid new : View) (n r next : Ref) (x : Pos) (m : Mark) (m
     mid_tree : IsTree (tree_of n) mid (front ++ back)
     mid_tree = put-tree S old mid n r (dummy_size x) e made held front back tree
 
-    splits : split x c.entries ≡ w.before ++ (e ∷ (w.here ∷ w.behind))
+    splits : gap_split x c.entries ≡ w.before ++ (e ∷ (w.here ∷ w.behind))
     splits = split-gap old n refs c h front next (found refs c h).1 is x fits ∙ ap (λ (g : Mark). w.before ++ (dummy x g ∷ (w.here ∷ w.behind))) (sym (marks w.here w.holds))
 
-    version : IsVersionOf new n (front ++ (r ∷ back)) (with_entries (split x c.entries) c)
+    version : IsVersionOf new n (front ++ (r ∷ back)) (with_entries (gap_split x c.entries) c)
     version = subst (λ es. IsVersionOf new n (front ++ (r ∷ back)) (with_entries es c)) (sym splits)
         (put-version S old mid n r (dummy_size x) e made held front back tree well new others elsewhere (objects (front ++ back) mid_tree) c w.before (w.here ∷ w.behind) w.held_before (w.holds, w.held_behind)
         (subst (λ es. IsVersion (with_entries es c)) splits (split-is x c h.version))
@@ -89,7 +89,7 @@ module _ (S : ℕ) (old mid new : View) (n r next : Ref) (x : Pos) (m : Mark) (m
     spare : spare_of S old.usages ≤ spare_of S new.usages + dummy_size x
     spare = put-spare S old mid n r (dummy_size x) e made held front back tree well new others elsewhere (objects (front ++ back) mid_tree)
 
-    live : IsWeighed old new c (with_entries (split x c.entries) c)
+    live : IsWeighed old new c (with_entries (gap_split x c.entries) c)
     live = subst (λ es. IsWeighed old new c (with_entries es c)) (sym splits) (weighed-with old new c w.before e (w.here ∷ w.behind) w.is
         (put-live S old mid n r (dummy_size x) e made held front back tree well new others elsewhere (objects (front ++ back) mid_tree)))
 

@@ -23,10 +23,10 @@ use Rattle.rc_core.specs.declared.entries.Entry.{Entry}
 use Rattle.rc_core.specs.declared.entries.Flag.TheVariants.{Known}
 use Rattle.rc_core.specs.declared.entries.Mark.{Mark}
 use Rattle.rc_core.specs.AtPlace.{HasEntryAt}
-use Rattle.rc_core.specs.Change.{changed, joined_onto, mark, raised_mark, split}
+use Rattle.rc_core.specs.Change.{entry_changed, gap_split, joined_onto, mark, raised_mark}
 use Rattle.rc_core.specs.Continuity.{with_entries}
 use Rattle.rc_core.specs.Steps.{join_statics, row_joined}
-use Rattle.rc_core.specs.Version.{Version, IsVersion, On, end_position, seen}
+use Rattle.rc_core.specs.Version.{Version, IsVersion, On, end_position, finding_in}
 use Rattle.rc_object.specs.declared.heads.Head.{Head}
 use Rattle.rc_object.specs.Objects.{HoldsHead, HoldsEntry, HoldsStatic, HasRoomFor, entry_length}
 use Rattle.rc_version.specs.declared.stretch.Marking.{Marking}
@@ -156,13 +156,13 @@ IsStaticRowFound v c result = MatchOption result (c.statics ≡ None) (λ s. (ro
 -- ---- what a call does to the entries of a version
 
 -- what is done to each mark of a stretch: a range tombstone is joined, and the flag stays; or it is known there, with this tombstone or none
-abbrev pub marked : Marking → Mark → Mark
-marked (Raise tomb) = raised_mark (Some tomb)
-marked (Know tomb) = λ m. mark Known tomb
+abbrev pub mark_after : Marking → Mark → Mark
+mark_after (Raise tomb) = raised_mark (Some tomb)
+mark_after (Know tomb) = λ m. mark Known tomb
 
 -- a version with a function on the mark at each of its entries from one position on and before another, and over each gap between them; none is made
 abbrev pub marked_between : (Mark → Mark) → Pos → Pos → Version → Version
-marked_between f from to c = with_entries (map (changed f from to) c.entries) c
+marked_between f from to c = with_entries (map (entry_changed f from to) c.entries) c
 
 -- a version with a range tombstone joined there
 abbrev pub raised_between : Pos → Pos → Tomb → Version → Version
@@ -178,7 +178,7 @@ ArePutAmong old r refs now = ((now ≡ refs) × Contains refs r) ⊎ ((body old 
 
 -- version n was split at a position: r is the entry there, made where there was none, and is in no list then; each entry holds what it held, the static row is the same object, nothing else becomes a part of the version, and all else is as it was
 pub record IsSplit (S : ℕ) (old new : View) (n : Ref) (x : Pos) (r : Ref) : Type 0 where
-  pub entries : (refs : List Ref) (c : Version) → IsVersionOf old n refs c → (now : List Ref) × ArePutAmong old r refs now × IsVersionOf new n now (with_entries (split x c.entries) c)
+  pub entries : (refs : List Ref) (c : Version) → IsVersionOf old n refs c → (now : List Ref) × ArePutAmong old r refs now × IsVersionOf new n now (with_entries (gap_split x c.entries) c)
   pub at : IsEntryAtPosition new r x
   pub unlisted : (q : Ref) → body old q ≡ None → IsUnlisted new q
   pub own : HasWhatWasMade n old new
@@ -187,16 +187,16 @@ pub record IsSplit (S : ℕ) (old new : View) (n : Ref) (x : Pos) (r : Ref) : Ty
   pub kept : IsKeptBut n old new
   pub parts : (q : Ref) → MayChange new n q → MayChange old n q
   pub spare : spare_of S old.usages ≤ spare_of S new.usages + dummy_size x
-  pub live : (refs : List Ref) (c : Version) → IsVersionOf old n refs c → IsWeighed old new c (with_entries (split x c.entries) c)
+  pub live : (refs : List Ref) (c : Version) → IsVersionOf old n refs c → IsWeighed old new c (with_entries (gap_split x c.entries) c)
 
 -- how many bytes the entry at a position takes with a row joined
 abbrev pub joined_bytes : Pos → Row → Version → ℕ
-joined_bytes x row c = bytes_at x (Some (joined_onto (seen (On x) c.entries).row row))
+joined_bytes x row c = bytes_at x (Some (joined_onto (finding_in (On x) c.entries).row row))
 
 -- a row can be joined to what version n has at a position: there is room for the entry, in which the row is joined to the one there, and an entry that stands there is in no list
 pub record CanJoin (S : ℕ) (v : View) (space : ℕ) (n : Ref) (x : Pos) (row : Row) (refs : List Ref) (c : Version) : Type 0 where
   pub version : IsVersionOf v n refs c
-  pub room : HasRoomFor S v (joined_bytes x row c) space (entry_length x (Some (joined_onto (seen (On x) c.entries).row row)))
+  pub room : HasRoomFor S v (joined_bytes x row c) space (entry_length x (Some (joined_onto (finding_in (On x) c.entries).row row)))
   pub unlisted : (r : Ref) → Contains refs r → IsEntryAtPosition v r x → IsUnlisted v r
 
 -- the entries are those before with r among them, or in the place of one that is gone

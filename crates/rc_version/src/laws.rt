@@ -7,11 +7,11 @@ ghost use Rattle.lsa_region.specs.Ends.{named_as};
 ghost use Rattle.lsa_region.specs.Region.{View, body, link_of, IsWell, Renamed};
 ghost use Rattle.rc_cell.specs.declared.writes.Tomb.{Tomb};
 ghost use Rattle.rc_core.specs.AtPlace.{HasEntryAt};
-ghost use Rattle.rc_core.specs.Change.{drop_at, split};
+ghost use Rattle.rc_core.specs.Change.{drop_at, gap_split};
 ghost use Rattle.rc_core.specs.Continuity.{with_entries};
 ghost use Rattle.rc_core.specs.declared.entries.Entry.{Entry};
 ghost use Rattle.rc_core.specs.Steps.{range_joined};
-ghost use Rattle.rc_core.specs.Version.{Behind, On, Spot, Version, IsBeforeEnd, IsVersion, seen, spot_cmp};
+ghost use Rattle.rc_core.specs.Version.{Behind, On, Spot, Version, IsBeforeEnd, IsVersion, finding_in, spot_cmp};
 ghost use Rattle.std.specs.Prelude.{ℕ};
 ghost use Rattle.std.specs.declared.cmp.Ordering.TheVariants.{Less};
 ghost use Rattle.rc_object.specs.Objects.{IsMade};
@@ -47,21 +47,21 @@ pub fn what_each_change_keeps_all_keep()
 /// A split changes no answer at any position, and over no gap.
 pub fn a_split_changes_no_answer()
     ensures { (S : ℕ) (old new : View) (n : Ref) (x : Pos) (r : Ref) (refs : List Ref) (c : Version) → IsSplit S old new n x r → IsVersionOf old n refs c →
-        (now : List Ref) × (d : Version) × IsVersionOf new n now d × ((s : Spot) → seen s d.entries ≡ seen s c.entries) }
+        (now : List Ref) × (d : Version) × IsVersionOf new n now d × ((s : Spot) → finding_in s d.entries ≡ finding_in s c.entries) }
 {}
 
 /// An entry that is dropped changes no answer before the one in front of it, nor at it, and none from the next one on.
 pub fn a_dropped_entry_changes_answers_between_its_neighbours()
-    ensures before { (c : Version) (s : Spot) (front : List Entry) (e next : Entry) (back : List Entry) (v : View) (n : Ref) (refs : List Ref) → IsVersionOf v n refs c → c.entries ≡ front ++ (e ∷ next ∷ back) → IsBeforeEnd s front → seen s (drop_at e.position c.entries) ≡ seen s c.entries }
-    ensures behind { (c : Version) (s : Spot) (front : List Entry) (e next : Entry) (back : List Entry) (v : View) (n : Ref) (refs : List Ref) → IsVersionOf v n refs c → c.entries ≡ front ++ (e ∷ next ∷ back) → spot_cmp s next.position ≢ Less → seen s (drop_at e.position c.entries) ≡ seen s c.entries }
+    ensures before { (c : Version) (s : Spot) (front : List Entry) (e next : Entry) (back : List Entry) (v : View) (n : Ref) (refs : List Ref) → IsVersionOf v n refs c → c.entries ≡ front ++ (e ∷ next ∷ back) → IsBeforeEnd s front → finding_in s (drop_at e.position c.entries) ≡ finding_in s c.entries }
+    ensures behind { (c : Version) (s : Spot) (front : List Entry) (e next : Entry) (back : List Entry) (v : View) (n : Ref) (refs : List Ref) → IsVersionOf v n refs c → c.entries ≡ front ++ (e ∷ next ∷ back) → spot_cmp s next.position ≢ Less → finding_in s (drop_at e.position c.entries) ≡ finding_in s c.entries }
 {}
 
 /// To join a range tombstone is to split at both of its ends, and to raise the tombstones between the entries that stand there then.
 pub fn a_joined_range_is_split_and_raised()
-    ensures { (from to : Pos) (tomb : Tomb) (c : Version) → range_joined from to tomb c ≡ raised_between from to tomb (with_entries (split to (split from c.entries)) c) }
+    ensures { (from to : Pos) (tomb : Tomb) (c : Version) → range_joined from to tomb c ≡ raised_between from to tomb (with_entries (gap_split to (gap_split from c.entries)) c) }
 {}
 
 /// An entry of a version stands at a position exactly where a split there makes none.
 pub fn an_entry_stands_where_a_split_makes_none()
-    ensures { (c : Version) (x : Pos) → IsVersion c → HasEntryAt x c.entries ↔ (split x c.entries ≡ c.entries) }
+    ensures { (c : Version) (x : Pos) → IsVersion c → HasEntryAt x c.entries ↔ (gap_split x c.entries ≡ c.entries) }
 {}

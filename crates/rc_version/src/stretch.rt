@@ -11,7 +11,7 @@ ghost use Rattle.rc_core.specs.Change.{with_gap, with_mark};
 ghost use Rattle.rc_core.specs.Continuity.{with_entries};
 ghost use Rattle.rc_core.specs.declared.entries.Entry.{Entry};
 ghost use Rattle.rc_core.specs.Version.{Version};
-ghost use Rattle.rc_version.specs.Versions.{IsVersionOf, IsKeptBeside, IsKeptBut, IsNoneMade, IsPartOf, marked, marked_between};
+ghost use Rattle.rc_version.specs.Versions.{IsVersionOf, IsKeptBeside, IsKeptBut, IsNoneMade, IsPartOf, mark_after, marked_between};
 ghost use Rattle.rc_version.specs.calls.Stretch.{HoldPair, IsMarking};
 
 use crate::finding::entry_at;
@@ -33,7 +33,7 @@ pub enum Marking {
 
 // A mark of a stretch, changed.
 fn marked(old: Mark, marking: Marking) -> Mark
-    ensures { result ≡ marked marking old }
+    ensures { result ≡ mark_after marking old }
 {
     match marking {
         Marking::Raise(tomb) => raised_mark(old, Some(tomb)),
@@ -48,7 +48,7 @@ fn marked(old: Mark, marking: Marking) -> Mark
 fn mark_pair<const S: usize>(region: &mut Region<S>, _v: Ref, e: Ref, next: Ref, marking: Marking)
     requires { (front : List Name) × (back : List Name) × (c : Version) × (before : List Entry) × (x : Entry) × (y : Entry) × (behind : List Entry) × HoldPair region.old _v front e next back c before x y behind }
     ensures marked { (front back : List Name) (c : Version) (before : List Entry) (x y : Entry) (behind : List Entry) → HoldPair region.old _v front e next back c before x y behind →
-        HoldPair region.new _v front e next back (with_entries (before ++ (with_mark (marked marking) x ∷ with_gap (marked marking y.gap) y ∷ behind)) c) before (with_mark (marked marking) x) (with_gap (marked marking y.gap) y) behind }
+        HoldPair region.new _v front e next back (with_entries (before ++ (with_mark (mark_after marking) x ∷ with_gap (mark_after marking y.gap) y ∷ behind)) c) before (with_mark (mark_after marking) x) (with_gap (mark_after marking y.gap) y) behind }
     ensures kept { (front back : List Name) (c : Version) (before : List Entry) (x y : Entry) (behind : List Entry) → HoldPair region.old _v front e next back c before x y behind → IsKeptBeside (Contains (front ++ (e ∷ next ∷ back))) _v region.old region.new }
     ensures usages { region.new.usages ≡ region.old.usages }
     ensures links { (end : Link) → link_of region.new end ≡ link_of region.old end }
@@ -76,9 +76,9 @@ pub(crate) fn mark_stretch<const S: usize>(
     last: Ref,
     marking: Marking,
 )
-    requires { (all : List Name) × (c : Version) × (target : List Entry) × IsMarking region.old v first last (marked marking) all c target 0 }
-    ensures marked { (all : List Name) (c : Version) (target : List Entry) → IsMarking region.old v first last (marked marking) all c target 0 → IsVersionOf region.new v all (with_entries target c) }
-    ensures kept { (all : List Name) (c : Version) (target : List Entry) → IsMarking region.old v first last (marked marking) all c target 0 → IsKeptBeside (Contains all) v region.old region.new }
+    requires { (all : List Name) × (c : Version) × (target : List Entry) × IsMarking region.old v first last (mark_after marking) all c target 0 }
+    ensures marked { (all : List Name) (c : Version) (target : List Entry) → IsMarking region.old v first last (mark_after marking) all c target 0 → IsVersionOf region.new v all (with_entries target c) }
+    ensures kept { (all : List Name) (c : Version) (target : List Entry) → IsMarking region.old v first last (mark_after marking) all c target 0 → IsKeptBeside (Contains all) v region.old region.new }
     ensures usages { region.new.usages ≡ region.old.usages }
     ensures links { (end : Link) → link_of region.new end ≡ link_of region.old end }
     ensures well { IsWell region.new }
@@ -124,7 +124,7 @@ pub fn mark_between<const S: usize>(
 )
     requires ascend { IsBefore from.now to.now }
     requires version { (refs : List Name) × (c : Version) × IsVersionOf region.old v refs c × HasEntryAt from.now c.entries × HasEntryAt to.now c.entries }
-    ensures marked { (refs : List Name) (c : Version) → IsVersionOf region.old v refs c → IsVersionOf region.new v refs (marked_between (marked marking) from.now to.now c) }
+    ensures marked { (refs : List Name) (c : Version) → IsVersionOf region.old v refs c → IsVersionOf region.new v refs (marked_between (mark_after marking) from.now to.now c) }
     ensures none { IsNoneMade region.old region.new }
     ensures statics { link_of region.new (End.Obj v 3) ≡ link_of region.old (End.Obj v 3) }
     ensures kept { IsKeptBut v region.old region.new }

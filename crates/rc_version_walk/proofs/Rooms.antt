@@ -17,7 +17,7 @@ use Rattle.lsa_store.specs.declared.place.Ref.{Ref}
 use Rattle.lsa_region.specs.Region.{View, body}
 use Rattle.rc_core.specs.Change.{joined_onto}
 use Rattle.rc_core.specs.declared.entries.Entry.{Entry}
-use Rattle.rc_core.specs.Version.{Finding, Spot, On, entry_answers, seen, spot_cmp}
+use Rattle.rc_core.specs.Version.{Finding, Spot, On, entry_answers, finding_in, spot_cmp}
 use Rattle.rc_object.specs.Objects.{HasRoomFor, HoldsEntry, SpellsEntry, entry_length}
 use Rattle.rc_version.specs.Versions.{HasStatics, HoldEntries, bytes_at}
 
@@ -45,11 +45,11 @@ answered Less e rest h k = tt
 answered Equal e rest h k = h
 answered Greater e rest h k = k
 
-seen_coded : (v : View) (s : Spot) (refs : List Ref) (es : List Entry) → HoldEntries v refs es → IfSome (seen s es).row IsCodedRow
+seen_coded : (v : View) (s : Spot) (refs : List Ref) (es : List Entry) → HoldEntries v refs es → IfSome (finding_in s es).row IsCodedRow
 seen_coded v s [] [] h = tt
 seen_coded v s [] (e ∷ es) h = absurd h
 seen_coded v s (r ∷ refs) [] h = absurd h
-seen_coded v s (r ∷ refs) (e ∷ es) h = answered (spot_cmp s e.position) e (seen s es) (row_in (body v r) e h.0) (seen_coded v s refs es h.1)
+seen_coded v s (r ∷ refs) (e ∷ es) h = answered (spot_cmp s e.position) e (finding_in s es) (row_in (body v r) e h.0) (seen_coded v s refs es h.1)
 
 -- a joined row has a code, as the crate of codes shows
 abbrev pub JoinedCoded : Type 0
@@ -80,8 +80,8 @@ module _ (v : View) (space : ℕ) (size : space ≡ 16384) (spare : 17904 ≤ sp
   }
 
   pub joined-room : JoinedCoded → (refs : List Ref) (es : List Entry) → HoldEntries v refs es → (x : Pos) → KeyFits x.prefix → (row : Row) → IsCodedRow row
-      → HasRoomFor 131072 v (bytes_at x (Some (joined_onto (seen (On x) es).row row))) space (entry_length x (Some (joined_onto (seen (On x) es).row row)))
-  joined-room law refs es held x fits row coded = row-room x fits (joined_onto (seen (On x) es).row row) (joined_coded law (seen (On x) es).row (seen_coded v (On x) refs es held) row coded)
+      → HasRoomFor 131072 v (bytes_at x (Some (joined_onto (finding_in (On x) es).row row))) space (entry_length x (Some (joined_onto (finding_in (On x) es).row row)))
+  joined-room law refs es held x fits row coded = row-room x fits (joined_onto (finding_in (On x) es).row row) (joined_coded law (finding_in (On x) es).row (seen_coded v (On x) refs es held) row coded)
 
 pub static-small : (row : Row) → IsCodedRow row → static_size row ≤ 8638
 static-small row coded = let least = up8_least (32 + length (row_code row)) in let short = row_small row coded in omega (arith, least, short)

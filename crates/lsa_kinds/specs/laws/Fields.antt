@@ -3,9 +3,9 @@ use Rattle.std.proofs.Common.{◌≡◌, ℕ, zero, suc, ◌+◌, ◌-◌, ◌/�
 use Rattle.std.proofs.Math.Nat.{pow-suc, div-add-mod}
 use Rattle.std.proofs.Math.Seq.{drop-append_seam, take-append_seam}
 use Rattle.std.proofs.lemmas.List.{drop-take, take-take, drop-drop}
-use Rattle.lsa_kinds.specs.Fields.{number, number_at, spelled, IsApart, IsPut}
+use Rattle.lsa_kinds.specs.Fields.{number, number_at, spelled_number, IsApart, IsPut}
 
-pub number-spelled : (width value : ℕ) → value < 256 ^ width → number (spelled width value) ≡ value
+pub number-spelled : (width value : ℕ) → value < 256 ^ width → number (spelled_number width value) ≡ value
 number-spelled zero value fits = omega arith
 number-spelled (suc width) value fits =
     omega (arith, number-spelled width (value / 256) (omega (arith, pow-suc 256 width, div-add-mod value 256)), div-add-mod value 256)
@@ -25,12 +25,12 @@ other_fields old new offset width before behind other other_width (inl le) =
 other_fields old new offset width before behind other other_width (inr le) =
     ap (λ bs. number (take other_width bs)) (drop_within other (offset + width) new le ∙ ap (drop (other - (offset + width))) behind ∙ sym (drop_within other (offset + width) old le))
 
-pub length-spelled : (width value : ℕ) → length (spelled width value) ≡ width
+pub length-spelled : (width value : ℕ) → length (spelled_number width value) ≡ width
 length-spelled zero value = refl
 length-spelled (suc width) value = ap (λ k. suc k) (length-spelled width (value / 256))
 
 -- the first bytes of a number spelled in more are those of the number spelled in as many
-pub take-spelled : (width all value : ℕ) → width ≤ all → take width (spelled all value) ≡ spelled width value
+pub take-spelled : (width all value : ℕ) → width ≤ all → take width (spelled_number all value) ≡ spelled_number width value
 take-spelled zero all value le = refl
 take-spelled (suc width) zero value le = absurd (omega arith)
 take-spelled (suc width) (suc all) value le = ap (λ l. value % 256 ∷ l) (take-spelled width all (value / 256) (omega arith))

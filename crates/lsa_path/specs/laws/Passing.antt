@@ -11,20 +11,20 @@ use Rattle.lsa_region.specs.declared.end.End.TheVariants.{Obj}
 use Rattle.lsa_region.specs.Layout.{object_extent}
 use Rattle.lsa_region.specs.Paired.{WellPaired}
 use Rattle.lsa_region.specs.Region.{View, body, link_of, IsWell, IsSummed, objects, live_bytes}
-use Rattle.lsa_path.specs.Path.{IsPath, IsOutside, behind, AllOnward, entered, followed, walk}
+use Rattle.lsa_path.specs.Path.{IsPath, IsOutside, behind, AllOnward, entered_object, objects_from, walk}
 use Rattle.lsa_path.specs.laws.Members.{member-cases, member-split, all-member, once-split}
 use Rattle.lsa_path.specs.laws.Paths.{same_object, same_some, path-rest, fresh-next, fresh-start, fresh-behind, paths-apart}
 use Rattle.lsa_path.specs.laws.Renamed.{some-there}
 
-enters : (i : ℕ) (r : Ref) → entered i (Some (Obj r i)) ≡ Some r
+enters : (i : ℕ) (r : Ref) → entered_object i (Some (Obj r i)) ≡ Some r
 enters i r = ap (λ b. cond b (Some r) None) (eq-eqb i i refl)
 
-enters_none : (i : ℕ) (r : Ref) (f : Option End) → entered i f ≡ None → f ≡ Some (Obj r i) → ⊥
-enters_none i r f free is = let clash : Some r ≡ None = sym (enters i r) ∙ ap (entered i) (sym is) ∙ free in cc
+enters_none : (i : ℕ) (r : Ref) (f : Option End) → entered_object i f ≡ None → f ≡ Some (Obj r i) → ⊥
+enters_none i r f free is = let clash : Some r ≡ None = sym (enters i r) ∙ ap (entered_object i) (sym is) ∙ free in cc
 
 module _ (i o : ℕ) (named : End → Option End) where
   -- the links determine a path, and where it ends
-  pub path-determined : (s : End) (xs ys : List Ref) (f g : Option End) → entered i f ≡ None → entered i g ≡ None → IsPath i o named s xs f → IsPath i o named s ys g → (xs ≡ ys) × (f ≡ g)
+  pub path-determined : (s : End) (xs ys : List Ref) (f g : Option End) → entered_object i f ≡ None → entered_object i g ≡ None → IsPath i o named s xs f → IsPath i o named s ys g → (xs ≡ ys) × (f ≡ g)
   path-determined s [] [] f g free free' p q = (refl, sym p ∙ q)
   path-determined s [] (y ∷ ys) f g free free' p q = absurd (enters_none i y f free (sym p ∙ q.0))
   path-determined s (x ∷ xs) [] f g free free' p q = absurd (enters_none i x g free' (sym q ∙ p.0))
@@ -34,12 +34,12 @@ module _ (i o : ℕ) (named : End → Option End) where
       (ap (λ r. r ∷ xs) same ∙ ap (λ l. y ∷ l) w.0, w.1)
 
   -- a walk of enough steps finds the objects of a path
-  pub path-walked : (most : ℕ) (s : End) (xs : List Ref) (f : Option End) → length xs ≤ most → entered i f ≡ None → IsPath i o named s xs f → walk most i o named s ≡ xs
+  pub path-walked : (most : ℕ) (s : End) (xs : List Ref) (f : Option End) → length xs ≤ most → entered_object i f ≡ None → IsPath i o named s xs f → walk most i o named s ≡ xs
   path-walked zero s [] f le free p = refl
   path-walked zero s (x ∷ xs) f le free p = absurd (omega (arith, le))
-  path-walked (suc most) s [] f le free p = ap (followed (λ r. walk most i o named (Obj r o))) (ap (entered i) p ∙ free)
+  path-walked (suc most) s [] f le free p = ap (objects_from (λ r. walk most i o named (Obj r o))) (ap (entered_object i) p ∙ free)
   path-walked (suc most) s (x ∷ xs) f le free p =
-      ap (followed (λ r. walk most i o named (Obj r o))) (ap (entered i) p.0 ∙ enters i x) ∙ ap (λ l. x ∷ l) (path-walked most (Obj x o) xs f (omega (arith, le)) free p.1)
+      ap (objects_from (λ r. walk most i o named (Obj r o))) (ap (entered_object i) p.0 ∙ enters i x) ∙ ap (λ l. x ∷ l) (path-walked most (Obj x o) xs f (omega (arith, le)) free p.1)
 
   -- a member is entered from an end
   pub path-entered : (s : End) (xs : List Ref) (f : Option End) → IsPath i o named s xs f → (r : Ref) → Contains xs r → (a : End) × (named a ≡ Some (Obj r i))

@@ -7,7 +7,7 @@ use Rattle.lsa_path.specs.Ref.{Ref}
 use Rattle.lsa_path.specs.End.{End}
 use Rattle.lsa_path.specs.End.TheVariants.{Obj}
 use Rattle.lsa_path.specs.Paired.{WellPaired}
-use Rattle.lsa_path.specs.Path.{entered}
+use Rattle.lsa_path.specs.Path.{entered_object}
 use Rattle.lsa_path.specs.laws.Members.{member-cases, member-first, member-later, once-split}
 use Rattle.lsa_shape.specs.declared.flank.Flank.{Flank}
 use Rattle.lsa_shape.specs.declared.flank.Flank.TheVariants.{Low, High}
@@ -15,21 +15,21 @@ use Rattle.lsa_shape.specs.Flanks.{near_link}
 use Rattle.lsa_shape.specs.Shapes.{TreeShape, Leaf, Node, inorder, HangsAt, IsClearOf}
 use Rattle.lsa_shape.specs.Ways.{Fork, ForkAt, plug, hole}
 use Rattle.lsa_shape.specs.Levels.{shape_size}
-use Rattle.lsa_shape.specs.Readings.{rooted, shape_at, one_more, steps_up, LeadsUp, way_objects}
+use Rattle.lsa_shape.specs.Readings.{tree_or_leaf, shape_at, one_more, steps_up, LeadsUp, way_objects}
 use Rattle.lsa_shape.specs.laws.Hanging.{listed-in, root-low, root-high, parts-apart, root-clear_low, root-clear_high}
 use Rattle.lsa_shape.specs.laws.Places.{HangsAround, hangs-around}
 
 -- ---- the shape
 
-enters : (r : Ref) → entered 2 (Some (Obj r 2)) ≡ Some r
+enters : (r : Ref) → entered_object 2 (Some (Obj r 2)) ≡ Some r
 enters r = refl
 
 pub read-shape : (most : ℕ) (named : End → Option End) (a : End) (s : TreeShape) → shape_size s ≤ most → HangsAt named a s → shape_at most named a ≡ s
 read-shape zero named a Leaf le h = refl
 read-shape zero named a (Node l r t) le h = absurd (omega (arith, le))
-read-shape (suc most) named a Leaf le h = ap (λ o. rooted (λ r. Node (shape_at most named (Obj r 3)) r (shape_at most named (Obj r 4))) (entered 2 o)) h
+read-shape (suc most) named a Leaf le h = ap (λ o. tree_or_leaf (λ r. Node (shape_at most named (Obj r 3)) r (shape_at most named (Obj r 4))) (entered_object 2 o)) h
 read-shape (suc most) named a (Node l r t) le h =
-    ap (λ o. rooted (λ r. Node (shape_at most named (Obj r 3)) r (shape_at most named (Obj r 4))) (entered 2 o)) h.0
+    ap (λ o. tree_or_leaf (λ r. Node (shape_at most named (Obj r 3)) r (shape_at most named (Obj r 4))) (entered_object 2 o)) h.0
     ∙ (λ i. Node (read-shape most named (Obj r 3) l (omega (arith, le)) h.1 i) r (read-shape most named (Obj r 4) t (omega (arith, le)) h.2 i))
 
 -- ---- the way up

@@ -4,7 +4,7 @@ use Rattle.std.specs.Option.{option_map}
 use Rattle.lsa_path.specs.Ref.{Ref}
 use Rattle.lsa_path.specs.End.{End}
 use Rattle.lsa_path.specs.End.TheVariants.{Obj}
-use Rattle.lsa_path.specs.Ends.{swapped}
+use Rattle.lsa_path.specs.Ends.{swapped_end}
 use Rattle.lsa_path.specs.Paired.{WellPaired, IsExchanged}
 use Rattle.lsa_path.specs.Exchanges.{swap-second, swap-other, map_other, at_end, swap_twice, exchanged-well}
 use Rattle.lsa_path.specs.laws.Paths.{same_field, same_object, same_some}
@@ -25,14 +25,14 @@ off-link e z (suc (suc (suc (suc (suc f))))) low high off = absurd (omega (arith
 
 module _ (old new : End → Option End) (p q : End) (ex : IsExchanged old new p q) (differ : p ≢ q) where
   -- what hangs at an end hangs at the one that it is swapped for
-  pub hangs-swapped : (a : End) (s : TreeShape) → IsClearOf p s → IsClearOf q s → HangsAt old a s → HangsAt new (swapped p q a) s
-  hangs-swapped a s clear clear' h = subst (HangsAt new (swapped p q a)) (shape-same (λ z. z) s (λ z i. refl))
-      (hangs-mapped old new (swapped p q) (λ z. z) a s
+  pub hangs-swapped : (a : End) (s : TreeShape) → IsClearOf p s → IsClearOf q s → HangsAt old a s → HangsAt new (swapped_end p q a) s
+  hangs-swapped a s clear clear' h = subst (HangsAt new (swapped_end p q a)) (shape-same (λ z. z) s (λ z i. refl))
+      (hangs-mapped old new (swapped_end p q) (λ z. z) a s
       (λ z i f low high. swap-other p q (Obj z f) (λ e. off-link p z f low high (clear z i) (sym e)) (λ e. off-link q z f low high (clear' z i) (sym e)))
       (moves a) (λ z i f low high. moves (Obj z f)) h)
     where
-      moves : (e : End) → new (swapped p q e) ≡ option_map (swapped p q) (old e)
-      moves e = at_end old new p q differ ex (swapped p q e) ∙ ap (λ d. option_map (swapped p q) (old d)) (swap_twice p q e differ)
+      moves : (e : End) → new (swapped_end p q e) ≡ option_map (swapped_end p q) (old e)
+      moves e = at_end old new p q differ ex (swapped_end p q e) ∙ ap (λ d. option_map (swapped_end p q) (old d)) (swap_twice p q e differ)
 
   -- where neither of them hangs it stays
   pub hangs-beside : (a : End) (s : TreeShape) → a ≢ p → a ≢ q → IsClearOf p s → IsClearOf q s → HangsAt old a s → HangsAt new a s
@@ -123,23 +123,23 @@ module _ (old mid new : End → Option End) (well : WellPaired old) (flank : Fla
 
     -- between the two the root hangs below itself
     mid_a : mid a ≡ Some (Obj x 2)
-    mid_a = first.first ∙ ap (option_map (swapped a q)) inner.0 ∙ ap (λ e. Some e) (swap-other a q (Obj x 2) (λ e. a_link x 2 x_in (omega arith) (omega arith) (sym e)) (λ e. differ (same_object x y 2 (near_link flank) e)))
+    mid_a = first.first ∙ ap (option_map (swapped_end a q)) inner.0 ∙ ap (λ e. Some e) (swap-other a q (Obj x 2) (λ e. a_link x 2 x_in (omega arith) (omega arith) (sym e)) (λ e. differ (same_object x y 2 (near_link flank) e)))
 
     y2_q : Obj y 2 ≢ q
     y2_q e = let w = near-low flank in let same = same_field y y 2 (near_link flank) e in omega (arith, w, same)
 
     mid_q : mid q ≡ Some (Obj y 2)
-    mid_q = first.second ∙ ap (option_map (swapped a q)) top.0 ∙ ap (λ e. Some e) (swap-other a q (Obj y 2) (λ e. a_link y 2 y_in (omega arith) (omega arith) (sym e)) y2_q)
+    mid_q = first.second ∙ ap (option_map (swapped_end a q)) top.0 ∙ ap (λ e. Some e) (swap-other a q (Obj y 2) (λ e. a_link y 2 y_in (omega arith) (omega arith) (sym e)) y2_q)
 
     s_differs : (z : Ref) (f : ℕ) → z ≢ x → Obj z f ≢ s
     s_differs z f ne e = ne (same_object z x f (far_link flank) e)
 
     new_a : new a ≡ Some (Obj x 2)
-    new_a = second.others a no_q no_s ∙ ap (option_map (swapped q s)) mid_a
+    new_a = second.others a no_q no_s ∙ ap (option_map (swapped_end q s)) mid_a
         ∙ ap (λ e. Some e) (swap-other q s (Obj x 2) (λ e. differ (same_object x y 2 (near_link flank) e)) (λ e. let w = far-low flank in let same = same_field x x 2 (far_link flank) e in omega (arith, w, same)))
 
     new_s : new s ≡ Some (Obj y 2)
-    new_s = second.second ∙ ap (option_map (swapped q s)) mid_q ∙ ap (λ e. Some e) (swap-other q s (Obj y 2) y2_q (s_differs y 2 (λ e. differ (sym e))))
+    new_s = second.second ∙ ap (option_map (swapped_end q s)) mid_q ∙ ap (λ e. Some e) (swap-other q s (Obj y 2) y2_q (s_differs y 2 (λ e. differ (sym e))))
 
     -- what hung below them hangs where it did, but for the part between
     mid_part : (u : TreeShape) (e : End) → e ≢ a → e ≢ q → ((z : Ref) → IsIn z u → IsIn z whole) → IsClearOf q u → HangsAt old e u → HangsAt mid e u

@@ -5,7 +5,7 @@ use Rattle.lsa_kinds.specs.declared.kind.Kind.{Kind}
 use Rattle.lsa_region.specs.Ref.{Ref}
 use Rattle.lsa_region.specs.declared.end.End.{End}
 use Rattle.lsa_region.specs.declared.end.End.TheVariants.{Obj, Slot}
-use Rattle.lsa_region.specs.Ends.{swapped}
+use Rattle.lsa_region.specs.Ends.{swapped_end}
 use Rattle.lsa_region.specs.Paired.{IsExchanged}
 use Rattle.lsa_region.specs.Region.{View, body, link_of}
 use Rattle.lsa_shape.specs.declared.flank.Flank.{Flank}
@@ -136,12 +136,12 @@ pub record IsSettled (old new : View) (at : End) (p : PlaceIn old at) : Type 0 w
   pub level : p.here ≡ suc p.there → IsTipped old p.shape p.here → (z : Ref) → IsIn z p.shape → balance_of old z ≡ 0 → balance_of new z ≡ 0
 
 -- r where q was and q where r was, in each link of a tree
-abbrev pub traded : Ref → Ref → End → End
-traded r q e = swapped (Obj r 4) (Obj q 4) (swapped (Obj r 3) (Obj q 3) (swapped (Obj r 2) (Obj q 2) e))
+abbrev pub traded_end : Ref → Ref → End → End
+traded_end r q e = swapped_end (Obj r 4) (Obj q 4) (swapped_end (Obj r 3) (Obj q 3) (swapped_end (Obj r 2) (Obj q 2) e))
 
 -- two entries have changed places, with their balances
 pub record IsTraded (old new : View) (r q : Ref) : Type 0 where
-  pub links : (e : End) → link_of new (traded r q e) ≡ option_map (traded r q) (link_of old e)
+  pub links : (e : End) → link_of new (traded_end r q e) ≡ option_map (traded_end r q) (link_of old e)
   pub first : balance_of new r ≡ balance_of old q
   pub second : balance_of new q ≡ balance_of old r
   pub objects : SameButBalances old new (r ∷ (q ∷ []))

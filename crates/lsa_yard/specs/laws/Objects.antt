@@ -6,7 +6,7 @@ use Rattle.std.proofs.lemmas.Bool.{cases_lt}
 use Rattle.std.proofs.lemmas.List.{append-nil, length-replicate, length-take-le, take-append-drop, take-append-le, drop-append-le, take-replicate, drop-replicate, drop-drop, take_at, drop_at}
 use Rattle.lsa_kinds.specs.declared.kind.Kind.{Kind}
 use Rattle.lsa_kinds.specs.Kinds.{links_of}
-use Rattle.lsa_kinds.specs.Fields.{number, number_at, spelled, IsApart, IsPut}
+use Rattle.lsa_kinds.specs.Fields.{number, number_at, spelled_number, IsApart, IsPut}
 use Rattle.lsa_kinds.specs.laws.Fields.{number-spelled, length-spelled, put-middle, other_fields}
 use Rattle.lsa_segment.specs.Bytes.{overwritten}
 use Rattle.lsa_yard.specs.Cells.{Cell, links_size, body_of, link_in, fresh, with_link, with_bytes}
@@ -37,17 +37,17 @@ links-there c P o p = omega (arith, ap links_size o.is, p.linked)
 
 put-link : (c : Cell) (field value : ℕ) → 8 * field + 8 ≤ length c.rest → value < 2 ^ 64 → IsPut c.rest (with_link field value c).rest (8 * field) 8 value
 put-link c field value inside small =
-    let word = spelled 8 value in let long = length-spelled 8 value in
+    let word = spelled_number 8 value in let long = length-spelled 8 value in
     subst (λ n. IsPut c.rest (take (8 * field) c.rest ++ (word ++ drop (8 * field + n) c.rest)) (8 * field) 8 value) (sym long)
     (put-middle c.rest word (8 * field) 8 value long (number-spelled 8 value small) inside)
 
 -- what stands before and behind a link that is set, whatever number was meant
 before-link : (c : Cell) (field value : ℕ) → 8 * field + 8 ≤ length c.rest → take (8 * field) (with_link field value c).rest ≡ take (8 * field) c.rest
-before-link c field value inside = take_at (take (8 * field) c.rest) (spelled 8 value ++ drop (8 * field + length (spelled 8 value)) c.rest) (8 * field) (length-take-le (8 * field) c.rest (omega arith))
+before-link c field value inside = take_at (take (8 * field) c.rest) (spelled_number 8 value ++ drop (8 * field + length (spelled_number 8 value)) c.rest) (8 * field) (length-take-le (8 * field) c.rest (omega arith))
 
 behind-link : (c : Cell) (field value : ℕ) → 8 * field + 8 ≤ length c.rest → drop (8 * field + 8) (with_link field value c).rest ≡ drop (8 * field + 8) c.rest
 behind-link c field value inside =
-    let word = spelled 8 value in let start = take (8 * field) c.rest in let rest = drop (8 * field + length word) c.rest in let long = length-spelled 8 value in
+    let word = spelled_number 8 value in let start = take (8 * field) c.rest in let rest = drop (8 * field + length word) c.rest in let long = length-spelled 8 value in
     let at : length start ≡ 8 * field = length-take-le (8 * field) c.rest (omega arith) in
     sym (drop-drop 8 (8 * field) (with_link field value c).rest) ∙ ap (drop 8) (drop_at start (word ++ rest) (8 * field) at) ∙ drop_at word rest 8 long ∙ ap (λ n. drop (8 * field + n) c.rest) long
 

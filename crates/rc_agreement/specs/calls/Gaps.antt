@@ -22,7 +22,7 @@ use Rattle.rc_core.specs.declared.entries.Mark.{Mark}
 use Rattle.rc_core.specs.Parts.{IsClear, IsReach}
 use Rattle.rc_core.specs.SpotState.{through}
 use Rattle.rc_core.specs.Chain.{states_at}
-use Rattle.rc_core.specs.Version.{Behind, Version, end_position, found, seen}
+use Rattle.rc_core.specs.Version.{Behind, Version, end_position, finding_in, finding_of}
 use Rattle.rc_object.specs.Objects.{HoldsEntry}
 use Rattle.rc_agreement.specs.declared.gaps.GapBehind.{GapBehind}
 
@@ -49,7 +49,7 @@ IsNextAt x entries next = MatchOption next ((to : Pos) → IsClear x to entries)
 
 -- entries say this over the gap behind a place, and the next one stands there
 abbrev pub SaysGap : Pos → List Entry → Mark → Option Pos → Type 0
-SaysGap x entries mark next = (seen (Behind x) entries ≡ found mark None) × IsNextAt x entries next
+SaysGap x entries mark next = (finding_in (Behind x) entries ≡ finding_of mark None) × IsNextAt x entries next
 
 -- a flag over another one, where a newer version has this one
 abbrev pub flag_above : Flag → Flag → Flag

@@ -6,7 +6,7 @@ use Rattle.rc_mutation.specs.declared.mutations.Mutation.{Mutation}
 use Rattle.rc_core.specs.Chains.{IsChainContinuous, IsPinned, IsUpdating, NewestIs, Shown, at_place, phase_at, upto, with_versions}
 use Rattle.rc_core.specs.Continuity.{IsContinuous}
 use Rattle.rc_core.specs.Free.{IsAbandoned}
-use Rattle.rc_core.specs.Steps.{IsChain, all_but, on_newest, on_version, renumbered}
+use Rattle.rc_core.specs.Steps.{IsChain, all_but, number_after_removal, on_newest, on_version}
 use Rattle.rc_core.specs.Version.{Version}
 use Rattle.rc_core.specs.laws.Merged.{all_but-parts}
 use Rattle.rc_core.specs.laws.Standing.{NewestIs-back}
@@ -65,7 +65,7 @@ pinned-continuous below p c j ch k on = k.needed j None (λ e. sym (none e), λ 
 -- ---- a version gone
 
 -- pins that pin nothing have no number that could change
-unpinned-same : (n : ℕ) (pins : List (Option ℕ)) → ((j : ℕ) → IsPinned pins j → ⊥) → map (option_map (renumbered n)) pins ≡ pins
+unpinned-same : (n : ℕ) (pins : List (Option ℕ)) → ((j : ℕ) → IsPinned pins j → ⊥) → map (option_map (number_after_removal n)) pins ≡ pins
 unpinned-same n [] free = refl
 unpinned-same n (None ∷ ps) free = ap (λ qs. None ∷ qs) (unpinned-same n ps (λ j on. free j (inr on)))
 unpinned-same n (Some j ∷ ps) free = absurd (free j (inl refl))

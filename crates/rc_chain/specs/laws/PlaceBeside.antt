@@ -12,7 +12,7 @@ use Rattle.rc_core.specs.Steps.{IsChain, IsSnapshotOf, MayPopulate, add_version,
 use Rattle.rc_core.specs.Version.{IsVersion}
 use Rattle.rc_memory.specs.Kept.{IsSoundChain}
 use Rattle.rc_memory.specs.Memory.{KeptChain, on_shown, shown_with, snapshot_number}
-use Rattle.rc_chain.specs.Lives.{is_cache, relabelled, with_version_over}
+use Rattle.rc_chain.specs.Lives.{is_cache, relabelled_chain, with_version_over}
 
 -- ---- the place beside
 
@@ -103,7 +103,7 @@ settled-same p c e = λ i. record { kind = c.kind; versions = c.versions; attach
 -- ---- another phase
 
 -- a detached chain is as it was
-pub relabelled-by : (P : KeptChain → Type 0) (phase : ℕ) (k : KeptChain) → (k.chain.attached ≡ true → P (on_shown (λ c. shown_with (on_newest (with_phase phase) c.versions) c) k)) → P k → P (relabelled phase k)
+pub relabelled-by : (P : KeptChain → Type 0) (phase : ℕ) (k : KeptChain) → (k.chain.attached ≡ true → P (on_shown (λ c. shown_with (on_newest (with_phase phase) c.versions) c) k)) → P k → P (relabelled_chain phase k)
 relabelled-by P phase k f h = by k.chain.attached refl
   where
     by : (b : Bool) → k.chain.attached ≡ b → P (cond b (on_shown (λ c. shown_with (on_newest (with_phase phase) c.versions) c) k) k)

@@ -11,11 +11,11 @@ ghost use Rattle.rc_core.specs.AtPlace.{HasEntryAt};
 ghost use Rattle.rc_core.specs.Change as change;
 ghost use Rattle.rc_core.specs.Continuity.{with_entries, without_statics};
 ghost use Rattle.rc_core.specs.Steps as steps;
-ghost use Rattle.rc_core.specs.Version.{On, Version, end_position, seen};
+ghost use Rattle.rc_core.specs.Version.{On, Version, end_position, finding_in};
 ghost use Rattle.rc_object.specs.Objects.{IsRowCode};
-ghost use Rattle.rc_version.specs.Versions.{IsVersionOf, bytes_at, joined_bytes, known_between, marked, marked_between};
+ghost use Rattle.rc_version.specs.Versions.{IsVersionOf, bytes_at, joined_bytes, known_between, mark_after, marked_between};
 ghost use Rattle.rc_memory.specs.Memory.{KeptChain, Member, HasVersion, IsMemberObject};
-ghost use Rattle.rc_memory.specs.Changes.{AtAlone, FitsChanged, IsRenewed, IsRenewedWhereNone, IsVersionChanged, IsWithout, KeepsLast, LastIsListed, Nowhere, OfVersion, member};
+ghost use Rattle.rc_memory.specs.Changes.{AtAlone, FitsChanged, IsRenewed, IsRenewedWhereNone, IsVersionChanged, IsWithout, KeepsLast, LastIsListed, Nowhere, OfVersion, member_at};
 
 use super::Chains;
 use lsa_region::{Ref, Region};
@@ -86,7 +86,7 @@ impl<const S: usize> Chains<S> {
         requires ascend { IsBefore from.now to.now }
         requires version { HasVersion self.old id number }
         requires entries { OfVersion self.old id number (λ k v. HasEntryAt from.now v.entries × HasEntryAt to.now v.entries) }
-        ensures marked { IsVersionChanged id number (marked_between (marked marking) from.now to.now) Nowhere self.old self.new }
+        ensures marked { IsVersionChanged id number (marked_between (mark_after marking) from.now to.now) Nowhere self.old self.new }
         ensures recency { self.new.recency ≡ self.old.recency }
         ensures spare { spare_of S self.new.region.usages ≡ spare_of S self.old.region.usages }
     {
@@ -100,10 +100,10 @@ impl<const S: usize> Chains<S> {
         requires version { HasVersion self.old id number }
         requires spare { dummy_size x.now ≤ spare_of S self.old.region.usages }
         requires fits { dummy_size x.now ≤ S / 8 }
-        requires last { KeepsLast id number (λ c. with_entries (change.split x.now c.entries) c) self.old }
-        ensures changed { IsVersionChanged id number (λ c. with_entries (change.split x.now c.entries) c) Nowhere self.old self.new }
-        ensures recency { OfVersion self.old id number (λ k v. IsRenewedWhereNone k.chain.kind v (member id number (Some x.now)) self.old.recency self.new.recency) }
-        ensures here { IsMemberObject self.new result (member id number (Some x.now)) }
+        requires last { KeepsLast id number (λ c. with_entries (change.gap_split x.now c.entries) c) self.old }
+        ensures changed { IsVersionChanged id number (λ c. with_entries (change.gap_split x.now c.entries) c) Nowhere self.old self.new }
+        ensures recency { OfVersion self.old id number (λ k v. IsRenewedWhereNone k.chain.kind v (member_at id number (Some x.now)) self.old.recency self.new.recency) }
+        ensures here { IsMemberObject self.new result (member_at id number (Some x.now)) }
         ensures spare { spare_of S self.old.region.usages ≤ spare_of S self.new.region.usages + dummy_size x.now }
     {
         let v = self.version(id, number);
@@ -121,10 +121,10 @@ impl<const S: usize> Chains<S> {
     /// The entry of a version at the position of an entry of another version; else as `split`.
     pub fn split_like(&mut self, id: u64, number: u64, e: Ref) -> Ref
         requires version { HasVersion self.old id number }
-        requires entry { (w : Member) × (x : Position) × (w.position ≡ Some x) × IsMemberObject self.old e w × (dummy_size x ≤ spare_of S self.old.region.usages) × KeepsLast id number (λ c. with_entries (change.split x c.entries) c) self.old }
-        ensures changed { (w : Member) (x : Position) → w.position ≡ Some x → IsMemberObject self.old e w → IsVersionChanged id number (λ c. with_entries (change.split x c.entries) c) Nowhere self.old self.new }
-        ensures recency { (w : Member) (x : Position) → w.position ≡ Some x → IsMemberObject self.old e w → OfVersion self.old id number (λ k v. IsRenewedWhereNone k.chain.kind v (member id number (Some x)) self.old.recency self.new.recency) }
-        ensures here { (w : Member) (x : Position) → w.position ≡ Some x → IsMemberObject self.old e w → IsMemberObject self.new result (member id number (Some x)) }
+        requires entry { (w : Member) × (x : Position) × (w.position ≡ Some x) × IsMemberObject self.old e w × (dummy_size x ≤ spare_of S self.old.region.usages) × KeepsLast id number (λ c. with_entries (change.gap_split x c.entries) c) self.old }
+        ensures changed { (w : Member) (x : Position) → w.position ≡ Some x → IsMemberObject self.old e w → IsVersionChanged id number (λ c. with_entries (change.gap_split x c.entries) c) Nowhere self.old self.new }
+        ensures recency { (w : Member) (x : Position) → w.position ≡ Some x → IsMemberObject self.old e w → OfVersion self.old id number (λ k v. IsRenewedWhereNone k.chain.kind v (member_at id number (Some x)) self.old.recency self.new.recency) }
+        ensures here { (w : Member) (x : Position) → w.position ≡ Some x → IsMemberObject self.old e w → IsMemberObject self.new result (member_at id number (Some x)) }
         ensures spare { (w : Member) (x : Position) → w.position ≡ Some x → IsMemberObject self.old e w → spare_of S self.old.region.usages ≤ spare_of S self.new.region.usages + dummy_size x }
     {
         let v = self.version(id, number);
@@ -141,9 +141,9 @@ impl<const S: usize> Chains<S> {
 
     /// Takes an entry of a version out and frees it, which is not the end dummy: the gap before the next one is Unknown then, and without a tombstone. It leaves the recency list, where it is in it.
     pub fn drop_entry(&mut self, id: u64, number: u64, e: Ref)
-        requires { (x : Position) × IsMemberObject self.old e (member id number (Some x)) × (x ≡ end_position → ⊥) }
-        ensures dropped { (x : Position) → IsMemberObject self.old e (member id number (Some x)) → IsVersionChanged id number (λ c. with_entries (change.drop_at x c.entries) c) (AtAlone (member id number (Some x))) self.old self.new }
-        ensures recency { (x : Position) → IsMemberObject self.old e (member id number (Some x)) → IsWithout (member id number (Some x)) self.old.recency self.new.recency }
+        requires { (x : Position) × IsMemberObject self.old e (member_at id number (Some x)) × (x ≡ end_position → ⊥) }
+        ensures dropped { (x : Position) → IsMemberObject self.old e (member_at id number (Some x)) → IsVersionChanged id number (λ c. with_entries (change.drop_at x c.entries) c) (AtAlone (member_at id number (Some x))) self.old self.new }
+        ensures recency { (x : Position) → IsMemberObject self.old e (member_at id number (Some x)) → IsWithout (member_at id number (Some x)) self.old.recency self.new.recency }
         ensures spare { spare_of S self.new.region.usages ≡ spare_of S self.old.region.usages }
     {
         let v = self.version(id, number);
@@ -153,8 +153,8 @@ impl<const S: usize> Chains<S> {
     /// Takes the static row of a version out and frees it; its flag is Unknown then, also where there was none. It leaves the recency list, where it is in it.
     pub fn drop_static(&mut self, id: u64, number: u64)
         requires { HasVersion self.old id number }
-        ensures dropped { IsVersionChanged id number without_statics (AtAlone (member id number None)) self.old self.new }
-        ensures recency { IsWithout (member id number None) self.old.recency self.new.recency }
+        ensures dropped { IsVersionChanged id number without_statics (AtAlone (member_at id number None)) self.old self.new }
+        ensures recency { IsWithout (member_at id number None) self.old.recency self.new.recency }
         ensures spare { spare_of S self.new.region.usages ≡ spare_of S self.old.region.usages }
     {
         let v = self.version(id, number);
@@ -169,9 +169,9 @@ impl<const S: usize> Chains<S> {
         requires spare { OfVersion self.old id number (λ k v. joined_bytes (row_pos key.now) row.now v ≤ spare_of S self.old.region.usages) }
         requires fits { FitsChanged S id number (steps.row_joined (row_pos key.now) row.now) self.old }
         requires last { KeepsLast id number (steps.row_joined (row_pos key.now) row.now) self.old }
-        ensures joined { IsVersionChanged id number (steps.row_joined (row_pos key.now) row.now) (AtAlone (member id number (Some (row_pos key.now)))) self.old self.new }
-        ensures recency { OfVersion self.old id number (λ k v. IsRenewed k.chain.kind (member id number (Some (row_pos key.now))) self.old.recency self.new.recency) }
-        ensures here { IsMemberObject self.new result (member id number (Some (row_pos key.now))) }
+        ensures joined { IsVersionChanged id number (steps.row_joined (row_pos key.now) row.now) (AtAlone (member_at id number (Some (row_pos key.now)))) self.old self.new }
+        ensures recency { OfVersion self.old id number (λ k v. IsRenewed k.chain.kind (member_at id number (Some (row_pos key.now))) self.old.recency self.new.recency) }
+        ensures here { IsMemberObject self.new result (member_at id number (Some (row_pos key.now))) }
         ensures spare { OfVersion self.old id number (λ k v. spare_of S self.old.region.usages ≤ spare_of S self.new.region.usages + joined_bytes (row_pos key.now) row.now v) }
     {
         let v = self.version(id, number);
@@ -195,8 +195,8 @@ impl<const S: usize> Chains<S> {
         requires version { HasVersion self.old id number }
         requires spare { OfVersion self.old id number (λ k v. static_size (change.joined_onto v.statics row.now) ≤ spare_of S self.old.region.usages) }
         requires fits { FitsChanged S id number (steps.join_flagged_statics row.now flag) self.old }
-        ensures joined { IsVersionChanged id number (steps.join_flagged_statics row.now flag) (AtAlone (member id number None)) self.old self.new }
-        ensures recency { OfVersion self.old id number (λ k v. IsRenewed k.chain.kind (member id number None) self.old.recency self.new.recency) }
+        ensures joined { IsVersionChanged id number (steps.join_flagged_statics row.now flag) (AtAlone (member_at id number None)) self.old self.new }
+        ensures recency { OfVersion self.old id number (λ k v. IsRenewed k.chain.kind (member_at id number None) self.old.recency self.new.recency) }
         ensures spare { OfVersion self.old id number (λ k v. spare_of S self.old.region.usages ≤ spare_of S self.new.region.usages + static_size (change.joined_onto v.statics row.now)) }
     {
         let v = self.version(id, number);
@@ -219,11 +219,11 @@ impl<const S: usize> Chains<S> {
     pub fn join_like(&mut self, id: u64, number: u64, e: Ref) -> Ref
         requires version { HasVersion self.old id number }
         requires there { (w : Member) × IsMemberObject self.old e w }
-        requires entry { (w : Member) (x : Position) → IsMemberObject self.old e w → w.position ≡ Some x → (row : Cells) × OfVersion self.old w.chain w.version (λ k v. (seen (On x) v.entries).row ≡ Some row) × OfVersion self.old id number (λ k v. joined_bytes x row v ≤ spare_of S self.old.region.usages) × FitsChanged S id number (steps.row_joined x row) self.old × KeepsLast id number (steps.row_joined x row) self.old }
+        requires entry { (w : Member) (x : Position) → IsMemberObject self.old e w → w.position ≡ Some x → (row : Cells) × OfVersion self.old w.chain w.version (λ k v. (finding_in (On x) v.entries).row ≡ Some row) × OfVersion self.old id number (λ k v. joined_bytes x row v ≤ spare_of S self.old.region.usages) × FitsChanged S id number (steps.row_joined x row) self.old × KeepsLast id number (steps.row_joined x row) self.old }
         requires statics { (w : Member) (row : Cells) → IsMemberObject self.old e w → w.position ≡ None → OfVersion self.old w.chain w.version (λ k v. v.statics ≡ Some row) → OfVersion self.old id number (λ k v. static_size (change.joined_onto v.statics row) ≤ spare_of S self.old.region.usages) × FitsChanged S id number (steps.join_statics row) self.old }
-        ensures entry { (w : Member) (x : Position) (row : Cells) → IsMemberObject self.old e w → w.position ≡ Some x → OfVersion self.old w.chain w.version (λ k v. (seen (On x) v.entries).row ≡ Some row) → IsVersionChanged id number (steps.row_joined x row) (AtAlone (member id number (Some x))) self.old self.new × OfVersion self.old id number (λ k v. IsRenewed k.chain.kind (member id number (Some x)) self.old.recency self.new.recency) × IsMemberObject self.new result (member id number (Some x)) }
-        ensures entry_spare { (w : Member) (x : Position) (row : Cells) → IsMemberObject self.old e w → w.position ≡ Some x → OfVersion self.old w.chain w.version (λ k v. (seen (On x) v.entries).row ≡ Some row) → OfVersion self.old id number (λ k v. spare_of S self.old.region.usages ≤ spare_of S self.new.region.usages + joined_bytes x row v) }
-        ensures statics { (w : Member) (row : Cells) → IsMemberObject self.old e w → w.position ≡ None → OfVersion self.old w.chain w.version (λ k v. v.statics ≡ Some row) → IsVersionChanged id number (steps.join_statics row) (AtAlone (member id number None)) self.old self.new × OfVersion self.old id number (λ k v. IsRenewed k.chain.kind (member id number None) self.old.recency self.new.recency) × IsMemberObject self.new result (member id number None) }
+        ensures entry { (w : Member) (x : Position) (row : Cells) → IsMemberObject self.old e w → w.position ≡ Some x → OfVersion self.old w.chain w.version (λ k v. (finding_in (On x) v.entries).row ≡ Some row) → IsVersionChanged id number (steps.row_joined x row) (AtAlone (member_at id number (Some x))) self.old self.new × OfVersion self.old id number (λ k v. IsRenewed k.chain.kind (member_at id number (Some x)) self.old.recency self.new.recency) × IsMemberObject self.new result (member_at id number (Some x)) }
+        ensures entry_spare { (w : Member) (x : Position) (row : Cells) → IsMemberObject self.old e w → w.position ≡ Some x → OfVersion self.old w.chain w.version (λ k v. (finding_in (On x) v.entries).row ≡ Some row) → OfVersion self.old id number (λ k v. spare_of S self.old.region.usages ≤ spare_of S self.new.region.usages + joined_bytes x row v) }
+        ensures statics { (w : Member) (row : Cells) → IsMemberObject self.old e w → w.position ≡ None → OfVersion self.old w.chain w.version (λ k v. v.statics ≡ Some row) → IsVersionChanged id number (steps.join_statics row) (AtAlone (member_at id number None)) self.old self.new × OfVersion self.old id number (λ k v. IsRenewed k.chain.kind (member_at id number None) self.old.recency self.new.recency) × IsMemberObject self.new result (member_at id number None) }
         ensures statics_spare { (w : Member) (row : Cells) → IsMemberObject self.old e w → w.position ≡ None → OfVersion self.old w.chain w.version (λ k v. v.statics ≡ Some row) → OfVersion self.old id number (λ k v. spare_of S self.old.region.usages ≤ spare_of S self.new.region.usages + static_size (change.joined_onto v.statics row)) }
     {
         let v = self.version(id, number);
@@ -247,7 +247,7 @@ impl<const S: usize> Chains<S> {
         requires spare { dummy_size from.now + dummy_size to.now ≤ spare_of S self.old.region.usages }
         requires last { LastIsListed id self.old }
         ensures joined { IsVersionChanged id number (steps.range_joined from.now to.now tomb) Nowhere self.old self.new }
-        ensures recency { OfVersion self.old id number (λ k v. (mid : Sequence Member) × IsRenewedWhereNone k.chain.kind v (member id number (Some from.now)) self.old.recency mid × IsRenewedWhereNone k.chain.kind v (member id number (Some to.now)) mid self.new.recency) }
+        ensures recency { OfVersion self.old id number (λ k v. (mid : Sequence Member) × IsRenewedWhereNone k.chain.kind v (member_at id number (Some from.now)) self.old.recency mid × IsRenewedWhereNone k.chain.kind v (member_at id number (Some to.now)) mid self.new.recency) }
         ensures spare { spare_of S self.old.region.usages ≤ spare_of S self.new.region.usages + (dummy_size from.now + dummy_size to.now) }
     {
         let _ = &self.region;

@@ -6,7 +6,7 @@ ghost use Rattle.rc_core.specs.Chains.{IsPinned};
 ghost use Rattle.rc_core.specs.Version.{Version, end_position};
 ghost use Rattle.rc_memory.specs.Memory.{KeptChain, Member, HasChain, HasVersion, IsMemberObject, IsVersionAt, chain_at, listed_as, on_chain, on_shown, shown_detached, shown_updating, with_chains};
 ghost use Rattle.rc_memory.specs.Recency.{IsLastInner, MustBeListed};
-ghost use Rattle.rc_memory.specs.Changes.{CanDrop, IsWithout, LastIsListed, Nowhere, NothingListed, OfVersion, StandStill, member};
+ghost use Rattle.rc_memory.specs.Changes.{CanDrop, IsWithout, LastIsListed, Nowhere, NothingListed, OfVersion, StandStill, member_at};
 ghost use Rattle.rc_chain.specs.Lives.{IsEndAlone, IsChainChanged, IsChainDropped, IsChainMade, IsEndListed, IsLastUnlisted, IsSameButSlots, IsVersionDropped, flag_of_new, with_end_listed, with_version_over};
 ghost use Rattle.rc_version.specs.Versions.{IsVersionOf};
 ghost use Rattle.lsa_region.specs.Region.{SameObjects};
@@ -122,7 +122,7 @@ impl<const S: usize> Chains<S> {
     // The end dummy of a version of a chain.
     pub(super) fn end_of(&self, id: u64, number: u64) -> Ref
         requires { HasVersion self.now id number }
-        ensures { IsMemberObject self.now result (member id number (Some end_position)) }
+        ensures { IsMemberObject self.now result (member_at id number (Some end_position)) }
     {
         let v = self.version(id, number);
         end_entry(&self.region, self.alloc, v)
@@ -131,7 +131,7 @@ impl<const S: usize> Chains<S> {
     // The last entry before the end dummy of a version; None where there is none.
     pub(super) fn last_inner(&self, id: u64, number: u64) -> Option<Ref>
         requires { HasVersion self.now id number }
-        ensures some { IfSome result (λ r. (x : Position) × IsMemberObject self.now r (member id number (Some x)) × OfVersion self.now id number (λ k v. IsLastInner v (Some x))) }
+        ensures some { IfSome result (λ r. (x : Position) × IsMemberObject self.now r (member_at id number (Some x)) × OfVersion self.now id number (λ k v. IsLastInner v (Some x))) }
         ensures none { IfNone result (OfVersion self.now id number (λ k v. (at : Option Position) → IsLastInner v at → ⊥)) }
     {
         let v = self.version(id, number);
@@ -143,7 +143,7 @@ impl<const S: usize> Chains<S> {
     fn list_last(&mut self, id: u64, number: u64)
         requires { IsSomeAnd (chain_at self.old id) (λ k. (k.chain.updating ≡ true) × (suc number ≡ length k.chain.versions)) }
         ensures listed { OfVersion self.old id number (λ k v. (last : Option Member) × IsLastUnlisted id number v self.old.recency last × (self.new ≡ listed_as (self.old.recency ++ option_to_list last) self.new.region self.old)) }
-        ensures there { OfVersion self.old id number (λ k v. (at : Option Position) → IsLastInner v at → Contains self.new.recency (member id number at)) }
+        ensures there { OfVersion self.old id number (λ k v. (at : Option Position) → IsLastInner v at → Contains self.new.recency (member_at id number at)) }
         ensures objects { SameObjects self.old.region self.new.region }
         ensures still { StandStill Nowhere self.old self.new }
     {

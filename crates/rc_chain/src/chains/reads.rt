@@ -3,7 +3,7 @@ ghost use Rattle.std.specs.Prelude.{◌≡◌, ◌≢◌, ◌↔◌, ℕ, Some, 
 ghost use Rattle.std.specs.declared.cmp.Ordering.TheVariants.{Greater};
 ghost use Rattle.rc_cell.specs.Orders.{tomb_cmp};
 ghost use Rattle.rc_cell.specs.Winner.{greatest};
-ghost use Rattle.rc_core.specs.Chain.{IsKnown, content, flagged, states_at};
+ghost use Rattle.rc_core.specs.Chain.{IsKnown, content, has_flag, states_at};
 ghost use Rattle.rc_core.specs.Chains.{upto};
 ghost use Rattle.rc_core.specs.Continuity.{static_states};
 ghost use Rattle.rc_core.specs.Continuity.{version_tombs};
@@ -37,7 +37,7 @@ impl<const S: usize> Chains<S> {
     pub fn head(&self, s: &Snap) -> Result<ReadHead, AllocError>
         requires { HasPin self.now s.now.chain s.now.pin }
         ensures pt { (k : KeptChain) (j : ℕ) → chain_at self.now s.now.chain ≡ Some k → pin_at k.chain.pins s.now.pin ≡ Some j → IfOk result (λ h. h.pt ≡ greatest tomb_cmp (version_tombs (upto k.chain.versions j))) }
-        ensures known { (k : KeptChain) (j : ℕ) → chain_at self.now s.now.chain ≡ Some k → pin_at k.chain.pins s.now.pin ≡ Some j → IfOk result (λ h. h.known ≡ flagged k.chain.kind (static_states (upto k.chain.versions j))) }
+        ensures known { (k : KeptChain) (j : ℕ) → chain_at self.now s.now.chain ≡ Some k → pin_at k.chain.pins s.now.pin ≡ Some j → IfOk result (λ h. h.known ≡ has_flag k.chain.kind (static_states (upto k.chain.versions j))) }
         ensures row { (k : KeptChain) (j : ℕ) → chain_at self.now s.now.chain ≡ Some k → pin_at k.chain.pins s.now.pin ≡ Some j → IfOk result (λ h. IsRowGiven h.row (content (static_states (upto k.chain.versions j))).0) }
     {
         let number = self.pinned_at(s);

@@ -10,9 +10,9 @@ ghost use Rattle.rc_core.specs.Version.{Version, end_position};
 ghost use Rattle.rc_memory.specs.Recency.{HasObject, IsLastInner};
 ghost use Rattle.rc_registry.specs.Registry.{AreFree};
 ghost use Rattle.rc_memory.specs.Memory.{KeptChain, Member, HasChain, HasPin, HasVersion, IsMemberObject, IsVersionAt, chain_at, listed_as};
-ghost use Rattle.rc_memory.specs.Changes.{Nowhere, NothingListed, OfVersion, StandStill, member};
+ghost use Rattle.rc_memory.specs.Changes.{Nowhere, NothingListed, OfVersion, StandStill, member_at};
 ghost use Rattle.rc_recency.specs.Holding.{IsFoundAt};
-ghost use Rattle.rc_chain.specs.Lives.{IsAtUpTo, IsEndAlone, IsChainChanged, IsChainDropped, IsEntryFreed, IsIdle, IsLastDropped, IsOneFreed, IsRelabelled, IsStaticFreed, IsTouched, IsVersionDropped, relabelled};
+ghost use Rattle.rc_chain.specs.Lives.{IsAtUpTo, IsEndAlone, IsChainChanged, IsChainDropped, IsEntryFreed, IsIdle, IsLastDropped, IsOneFreed, IsRelabelled, IsStaticFreed, IsTouched, IsVersionDropped, relabelled_chain};
 
 use super::{Chains, Snap};
 use lsa_region::Ref;
@@ -25,7 +25,7 @@ impl<const S: usize> Chains<S> {
     // Gives the newest version of a chain another phase, where the chain is found by its key.
     fn relabel_one(&mut self, id: u64, to: u64)
         requires { HasChain self.old id }
-        ensures relabelled { IsChainChanged id (relabelled to) self.old.recency self.old self.new }
+        ensures relabelled { IsChainChanged id (relabelled_chain to) self.old.recency self.old self.new }
         ensures spare { spare_of S self.new.region.usages ≡ spare_of S self.old.region.usages }
     {
         if self.is_attached(id) {
@@ -74,7 +74,7 @@ impl<const S: usize> Chains<S> {
         requires { IsSomeAnd (chain_at self.now id) (λ k. (k.chain.kind ≡ Kind.Cache) × (k.chain.updating ≡ false) × (number < length k.chain.versions)) }
         ensures none { result ≡ false → NothingListed id number self.now }
         ensures bare { result ≡ false → OfVersion self.now id number (λ k v. IsEndAlone v) }
-        ensures some { IsTrue result → (at : Option Position) × Contains self.now.recency (member id number at) }
+        ensures some { IsTrue result → (at : Option Position) × Contains self.now.recency (member_at id number at) }
     {
         self.known();
         if self.has_more(id, number) {
@@ -136,7 +136,7 @@ impl<const S: usize> Chains<S> {
     // The entry of a version at a key. Where there is none, none is in the recency list.
     fn keyed_entry(&self, id: u64, number: u64, key: &Key) -> Option<Ref>
         requires { HasVersion self.now id number }
-        ensures { IsFoundAt self.now (member id number (Some (row_pos key.now))) result }
+        ensures { IsFoundAt self.now (member_at id number (Some (row_pos key.now))) result }
     {
         let v = self.version(id, number);
         entry_at_key(&self.region, v, key)
@@ -145,8 +145,8 @@ impl<const S: usize> Chains<S> {
     // Makes the entry of a version at a key the most recent object, where it is in the recency list.
     fn touch_one(&mut self, id: u64, number: u64, key: &Key)
         requires { HasVersion self.old id number }
-        ensures touched { (front back : Sequence Member) → self.old.recency ≡ front ++ (member id number (Some (row_pos key.now)) ∷ back) → self.new ≡ listed_as ((front ++ back) ++ (member id number (Some (row_pos key.now)) ∷ [])) self.new.region self.old }
-        ensures unlisted { (Contains self.old.recency (member id number (Some (row_pos key.now))) → ⊥) → self.new ≡ self.old }
+        ensures touched { (front back : Sequence Member) → self.old.recency ≡ front ++ (member_at id number (Some (row_pos key.now)) ∷ back) → self.new ≡ listed_as ((front ++ back) ++ (member_at id number (Some (row_pos key.now)) ∷ [])) self.new.region self.old }
+        ensures unlisted { (Contains self.old.recency (member_at id number (Some (row_pos key.now))) → ⊥) → self.new ≡ self.old }
         ensures objects { SameObjects self.old.region self.new.region }
         ensures still { StandStill Nowhere self.old self.new }
     {
@@ -174,7 +174,7 @@ impl<const S: usize> Chains<S> {
 
     // Frees the last entry before the end of the oldest version of a chain.
     fn free_entry(&mut self, id: u64, e: Ref)
-        requires { (x : Position) × IsMemberObject self.old e (member id 0 (Some x)) × OfVersion self.old id 0 (λ k v. IsLastInner v (Some x)) }
+        requires { (x : Position) × IsMemberObject self.old e (member_at id 0 (Some x)) × OfVersion self.old id 0 (λ k v. IsLastInner v (Some x)) }
         ensures freed { IsEntryFreed id self.old self.new }
         ensures spare { spare_of S self.new.region.usages ≡ spare_of S self.old.region.usages }
     {

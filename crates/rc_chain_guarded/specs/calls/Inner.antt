@@ -8,7 +8,7 @@ use Rattle.rc_core.specs.declared.entries.Flag.TheVariants.{Inherit}
 use Rattle.rc_core.specs.Steps.{version_of}
 use Rattle.rc_core.specs.Version.{Version}
 use Rattle.rc_memory.specs.Memory.{KeptChain, Memory, IsVersionAt, chain_at}
-use Rattle.rc_memory.specs.Changes.{member}
+use Rattle.rc_memory.specs.Changes.{member_at}
 use Rattle.rc_memory.specs.Recency.{IsLastInner, IsUnderUpdate}
 use Rattle.rc_chain_guarded.specs.declared.known.Held.{Held}
 use Rattle.rc_chain_guarded.specs.declared.known.Known.{Known}
@@ -32,7 +32,7 @@ IsOther one other = other.chain ≡ one.chain → other.pin ≡ one.pin → ⊥
 
 -- where a version is under update, its last entry before the end is in the recency list
 abbrev pub IsLastListed : ℕ → ℕ → Memory → Type 0
-IsLastListed id j m = (k : KeptChain) (v : Version) (at : Option Pos) → chain_at m id ≡ Some k → IsUnderUpdate k.chain j → IsVersionAt k.chain.versions j v → IsLastInner v at → Contains m.recency (member id j at)
+IsLastListed id j m = (k : KeptChain) (v : Version) (at : Option Pos) → chain_at m id ≡ Some k → IsUnderUpdate k.chain j → IsVersionAt k.chain.versions j v → IsLastInner v at → Contains m.recency (member_at id j at)
 
 -- what is known no longer of a version that was bare: which version is bare is as it was, or unknown where it is this one
 abbrev pub IsKnownBeside : ℕ → ℕ → Known → Known → Type 0

@@ -20,9 +20,9 @@ use Rattle.rc_core.specs.declared.entries.ChainKind.TheVariants.{Cache}
 use Rattle.rc_core.specs.declared.entries.Flag.{Flag}
 use Rattle.rc_core.specs.declared.entries.Flag.TheVariants.{Known, Unknown, Inherit}
 use Rattle.rc_core.specs.SpotState.{SpotState, spot_state, over, under, through, joined_state}
-use Rattle.rc_core.specs.Version.{Spot, On, Behind, Version, IsVersion, state_at, static_state, found, seen, state_of, spot_cmp, end_position, IsBeforeEnd}
+use Rattle.rc_core.specs.Version.{Spot, On, Behind, Version, IsVersion, state_at, static_state, finding_of, finding_in, state_of, spot_cmp, end_position, IsBeforeEnd}
 use Rattle.rc_core.specs.Change.{mark, fill_gap, fill_row, joined_onto, position_of}
-use Rattle.rc_core.specs.Chain.{flagged, content, states_at, flag_over, IsBare, IsKnown, IsEvenAt}
+use Rattle.rc_core.specs.Chain.{has_flag, content, states_at, flag_over, IsBare, IsKnown, IsEvenAt}
 use Rattle.rc_core.specs.Continuity.{IsWithin, static_states, IsContinuous, with_entries, fill_statics, joined_options}
 use Rattle.rc_core.specs.laws.Folding.{flagged-through, content-through, through-append, under-above}
 use Rattle.rc_core.specs.laws.Spots.{change-seen, fill_row-there, fill_row-other, behind-Equal, position-reached, gap-reached}
@@ -44,7 +44,7 @@ seen-known f older v k = ap through (map-append f older v []) ∙ through-known 
 pub seen-same : (f : Version → SpotState) (older : List Version) (v w : Version) → f w ≡ f v → through (list_map f (older ++ w ∷ [])) ≡ through (list_map f (older ++ v ∷ []))
 seen-same f older v w e = ap through (map-append f older w []) ∙ ap (λ c. through (list_map f older ++ c ∷ [])) e ∙ sym (ap through (map-append f older v []))
 
-pub flagged-known : (f : Version → SpotState) (older : List Version) (v : Version) → (f v).flag ≡ Known → IsTrue (flagged Cache (list_map f (older ++ v ∷ [])))
+pub flagged-known : (f : Version → SpotState) (older : List Version) (v : Version) → (f v).flag ≡ Known → IsTrue (has_flag Cache (list_map f (older ++ v ∷ [])))
 flagged-known f older v k = flagged-through Cache (list_map f (older ++ v ∷ [])) ∙ ap (λ (c : SpotState). flag_over Cache c.flag) (seen-known f older v k) ∙ ap (flag_over Cache) k
 
 pub content-known : (f : Version → SpotState) (older : List Version) (v : Version) → (f v).flag ≡ Known → content (list_map f (older ++ v ∷ [])) ≡ joined_state (f v)
@@ -90,14 +90,14 @@ module _ (writes : List Mutation) (older : List Version) (v : Version) (i : IsVe
   abbrev filled : Version
   filled = with_entries (fill_gap from to tomb v.entries) v
 
-  gap_states : (s : Spot) → IsBeforeEnd s v.entries → state_at s filled ≡ state_of (cond (covers from to (position_of s)) (found (mark Known tomb) (seen s v.entries).row) (seen s v.entries))
+  gap_states : (s : Spot) → IsBeforeEnd s v.entries → state_at s filled ≡ state_of (cond (covers from to (position_of s)) (finding_of (mark Known tomb) (finding_in s v.entries).row) (finding_in s v.entries))
   gap_states s b = ap state_of (change-seen (λ m. mark Known tomb) s from to v.entries b)
 
-  gap_inside : (s : Spot) → IsBeforeEnd s v.entries → covers from to (position_of s) ≡ true → state_at s filled ≡ spot_state Known (option_to_list (seen s v.entries).row) (option_to_list tomb)
-  gap_inside s b c = gap_states s b ∙ ap (λ t. state_of (cond t (found (mark Known tomb) (seen s v.entries).row) (seen s v.entries))) c
+  gap_inside : (s : Spot) → IsBeforeEnd s v.entries → covers from to (position_of s) ≡ true → state_at s filled ≡ spot_state Known (option_to_list (finding_in s v.entries).row) (option_to_list tomb)
+  gap_inside s b c = gap_states s b ∙ ap (λ t. state_of (cond t (finding_of (mark Known tomb) (finding_in s v.entries).row) (finding_in s v.entries))) c
 
   gap_outside : (s : Spot) → IsBeforeEnd s v.entries → covers from to (position_of s) ≡ false → state_at s filled ≡ state_at s v
-  gap_outside s b c = gap_states s b ∙ ap (λ t. state_of (cond t (found (mark Known tomb) (seen s v.entries).row) (seen s v.entries))) c
+  gap_outside s b c = gap_states s b ∙ ap (λ t. state_of (cond t (finding_of (mark Known tomb) (finding_in s v.entries).row) (finding_in s v.entries))) c
 
   on : (x : Pos) → IsBeforeEnd (On x) v.entries
   on x = position-reached x v.entries i.ends
@@ -118,10 +118,10 @@ module _ (writes : List Mutation) (older : List Version) (v : Version) (i : IsVe
   }
 
   module _ (given : (x : Pos) → covers from to x ≡ true → source_at writes x ≡ (empty_row, tomb)) where
-    row_within : (x : Pos) → covers from to x ≡ true → IsWithin (state_at (On x) v) (source_at writes x) → joined_row (option_to_list (seen (On x) v.entries).row) ≡ empty_row
+    row_within : (x : Pos) → covers from to x ≡ true → IsWithin (state_at (On x) v) (source_at writes x) → joined_row (option_to_list (finding_in (On x) v.entries).row) ≡ empty_row
     row_within x c w =
-        sym (no_rows (option_to_list (seen (On x) v.entries).row))
-        ∙ ap (λ (a : Row × Option Tomb). joined_row (a.0 ∷ option_to_list (seen (On x) v.entries).row)) (sym (given x c))
+        sym (no_rows (option_to_list (finding_in (On x) v.entries).row))
+        ∙ ap (λ (a : Row × Option Tomb). joined_row (a.0 ∷ option_to_list (finding_in (On x) v.entries).row)) (sym (given x c))
         ∙ w.0
         ∙ ap (λ (a : Row × Option Tomb). a.0) (given x c)
 
@@ -139,7 +139,7 @@ module _ (writes : List Mutation) (older : List Version) (v : Version) (i : IsVe
         ∙ (λ j. (row_within x c w j, tomb-alone tomb j))
         ∙ sym (given x c)
 
-    gap_content : (k : IsContinuous None writes (older ++ v ∷ [])) (x : Pos) → IsTrue (flagged Cache (states_at (On x) (older ++ filled ∷ []))) → content (states_at (On x) (older ++ filled ∷ [])) ≡ source_at writes x
+    gap_content : (k : IsContinuous None writes (older ++ v ∷ [])) (x : Pos) → IsTrue (has_flag Cache (states_at (On x) (older ++ filled ∷ []))) → content (states_at (On x) (older ++ filled ∷ [])) ≡ source_at writes x
     gap_content k x f = elim (covers from to x) as (λ b. covers from to x ≡ b → content (states_at (On x) (older ++ filled ∷ [])) ≡ source_at writes x) [
       | true ↦ λ c. inside_content x c (each-one _ older [] v (k.within.clustered x))
       | false ↦ λ c. let e = gap-elsewhere (On x) (on x) c in
@@ -175,7 +175,7 @@ module _ (writes : List Mutation) (older : List Version) (v : Version) (i : IsVe
   abbrev with_filled_row : Version
   with_filled_row = with_entries (fill_row p row tomb v.entries) v
 
-  there : state_at (On p) with_filled_row ≡ spot_state Known (joined_onto (seen (On p) v.entries).row row ∷ []) (option_to_list (greater tomb_cmp (seen (On p) v.entries).mark.tomb tomb))
+  there : state_at (On p) with_filled_row ≡ spot_state Known (joined_onto (finding_in (On p) v.entries).row row ∷ []) (option_to_list (greater tomb_cmp (finding_in (On p) v.entries).mark.tomb tomb))
   there = ap state_of (fill_row-there p row tomb v.entries i.ends)
 
   pub row-elsewhere : (s : Spot) → (spot_cmp s p ≡ Equal → ⊥) → through (states_at s (older ++ with_filled_row ∷ [])) ≡ through (states_at s (older ++ v ∷ []))
@@ -189,8 +189,8 @@ module _ (writes : List Mutation) (older : List Version) (v : Version) (i : IsVe
     row_said w =
         ap joined_state there
         ∙ (λ j. (
-          joined_within (seen (On p) v.entries).row row (ap (λ (a : Row × Option Tomb). joined_row (a.0 ∷ option_to_list (seen (On p) v.entries).row)) (sym given) ∙ w.0 ∙ ap (λ (a : Row × Option Tomb). a.0) given) j,
-          raised_within (seen (On p) v.entries).mark.tomb tomb (ap (λ (a : Row × Option Tomb). greatest tomb_cmp (option_to_list a.1 ++ option_to_list (seen (On p) v.entries).mark.tomb)) (sym given) ∙ w.1 ∙ ap (λ (a : Row × Option Tomb). a.1) given) j,
+          joined_within (finding_in (On p) v.entries).row row (ap (λ (a : Row × Option Tomb). joined_row (a.0 ∷ option_to_list (finding_in (On p) v.entries).row)) (sym given) ∙ w.0 ∙ ap (λ (a : Row × Option Tomb). a.0) given) j,
+          raised_within (finding_in (On p) v.entries).mark.tomb tomb (ap (λ (a : Row × Option Tomb). greatest tomb_cmp (option_to_list a.1 ++ option_to_list (finding_in (On p) v.entries).mark.tomb)) (sym given) ∙ w.1 ∙ ap (λ (a : Row × Option Tomb). a.1) given) j,
         ))
         ∙ sym given
 
@@ -209,7 +209,7 @@ module _ (writes : List Mutation) (older : List Version) (v : Version) (i : IsVe
         let rows_there : joined_row (state_at (On p) with_filled_row).rows ≡ (source_at writes p).0 = ap (λ (a : Row × Option Tomb). a.0) said_there in (
           adds_nothing (source_at writes p).0 (rows_in p (all_rows writes)) (state_at (On p) with_filled_row).rows refl rows_there,
           ap (λ (k : SpotState). greatest tomb_cmp (option_to_list (source_at writes p).1 ++ k.tombs)) there
-              ∙ ap (λ t. greatest tomb_cmp (option_to_list (source_at writes p).1 ++ option_to_list t)) (raised_is (seen (On p) v.entries).mark.tomb tomb (ap (λ (a : Row × Option Tomb). greatest tomb_cmp (option_to_list a.1 ++ option_to_list (seen (On p) v.entries).mark.tomb)) (sym given) ∙ w.1 ∙ ap (λ (a : Row × Option Tomb). a.1) given) ∙ ap (λ (a : Row × Option Tomb). a.1) (sym given))
+              ∙ ap (λ t. greatest tomb_cmp (option_to_list (source_at writes p).1 ++ option_to_list t)) (raised_is (finding_in (On p) v.entries).mark.tomb tomb (ap (λ (a : Row × Option Tomb). greatest tomb_cmp (option_to_list a.1 ++ option_to_list (finding_in (On p) v.entries).mark.tomb)) (sym given) ∙ w.1 ∙ ap (λ (a : Row × Option Tomb). a.1) given) ∙ ap (λ (a : Row × Option Tomb). a.1) (sym given))
               ∙ itself_within (source_at writes p).1,
         )
 
@@ -223,7 +223,7 @@ module _ (writes : List Mutation) (older : List Version) (v : Version) (i : IsVe
         other : (spot_cmp (On x) p ≡ Equal → ⊥) → IsWithin (state_at (On x) with_filled_row) (source_at writes x)
         other h = subst (λ k. IsWithin k (source_at writes x)) (sym (ap state_of (fill_row-other (On x) p row tomb v.entries h))) w
 
-    content_at : (k : IsContinuous None writes (older ++ v ∷ [])) (x : Pos) → IsTrue (flagged Cache (states_at (On x) (older ++ with_filled_row ∷ []))) → content (states_at (On x) (older ++ with_filled_row ∷ [])) ≡ source_at writes x
+    content_at : (k : IsContinuous None writes (older ++ v ∷ [])) (x : Pos) → IsTrue (has_flag Cache (states_at (On x) (older ++ with_filled_row ∷ []))) → content (states_at (On x) (older ++ with_filled_row ∷ [])) ≡ source_at writes x
     content_at k x f = elim (pos_cmp x p) as (λ r. pos_cmp x p ≡ r → content (states_at (On x) (older ++ with_filled_row ∷ [])) ≡ source_at writes x) [
       | Less ↦ λ h. other (λ e. let u : Less ≡ Equal = sym h ∙ e in absurd (cc))
       | Equal ↦ λ h. subst (λ y. content (states_at (On y) (older ++ with_filled_row ∷ [])) ≡ source_at writes y) (sym (pos_cmp_same x p h)) (row_content (each-one _ older [] v (k.within.clustered p)))
@@ -276,7 +276,7 @@ module _ (writes : List Mutation) (older : List Version) (v : Version) (given : 
   abbrev with_statics : Version
   with_statics = fill_statics given v
 
-  pub statics-known : IsTrue (flagged Cache (static_states (older ++ with_statics ∷ [])))
+  pub statics-known : IsTrue (has_flag Cache (static_states (older ++ with_statics ∷ [])))
   statics-known = flagged-known static_state older with_statics refl
 
   pub statics-continuous : joined_row (option_to_list given) ≡ source_at_static writes → IsContinuous None writes (older ++ v ∷ []) → IsContinuous None writes (older ++ with_statics ∷ [])

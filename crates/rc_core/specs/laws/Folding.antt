@@ -9,7 +9,7 @@ use Rattle.rc_core.specs.declared.entries.ChainKind.{ChainKind}
 use Rattle.rc_core.specs.declared.entries.Flag.{Flag}
 use Rattle.rc_core.specs.declared.entries.Flag.TheVariants.{Known, Unknown, Inherit}
 use Rattle.rc_core.specs.SpotState.{SpotState, spot_state, silent, under, through, joined_state}
-use Rattle.rc_core.specs.Chain.{base, newer_first, from_number, first_flag, flagged, flagged_from, flag_over, decides, is_known, content}
+use Rattle.rc_core.specs.Chain.{base, newer_first, from_number, first_flag, has_flag, flagged_from, flag_over, decides, is_known, content}
 
 pub same_cell : {f g : Flag} {rs qs : List Row} {ts us : List Tomb} → f ≡ g → rs ≡ qs → ts ≡ us → spot_state f rs ts ≡ spot_state g qs us
 same_cell a b c = λ i. spot_state (a i) (b i) (c i)
@@ -118,7 +118,7 @@ known_or_not kind Known d = refl
 known_or_not kind Unknown d = refl
 known_or_not kind Inherit d = absurd (cc)
 
-pub flagged-through : (kind : ChainKind) (cells : List SpotState) → flagged kind cells ≡ flag_over kind (through cells).flag
+pub flagged-through : (kind : ChainKind) (cells : List SpotState) → has_flag kind cells ≡ flag_over kind (through cells).flag
 flagged-through kind cells =
     elim (base cells) as (λ b. base cells ≡ b → flagged_from kind b cells ≡ flag_over kind (flag_from b cells)) [
       | Some i ↦ λ h. known_or_not kind (first_flag (drop i cells)) (base-found cells i h)

@@ -7,7 +7,7 @@ use Rattle.rc_mutation.specs.declared.mutations.Mutation.{Mutation}
 use Rattle.rc_core.specs.declared.entries.ChainKind.{ChainKind}
 use Rattle.rc_core.specs.declared.entries.ChainKind.TheVariants.{Memtable, Cache}
 use Rattle.rc_core.specs.declared.entries.Flag.TheVariants.{Inherit}
-use Rattle.rc_core.specs.Version.{Spot, Version, IsVersion, state_at, state_of, found, end_position}
+use Rattle.rc_core.specs.Version.{Spot, Version, IsVersion, state_at, state_of, finding_of, end_position}
 use Rattle.rc_core.specs.Change.{mark}
 use Rattle.rc_core.specs.Continuity.{EachOf, HoldNoMore}
 use Rattle.rc_core.specs.Chains.{Chain, upto, phase_at, IsNeeded, IsUpdating, AllInherit, IsChainContinuous, IsMemtableChain, with_versions}
@@ -84,7 +84,7 @@ version-freed-memtable c front back v vs l k = left_memtable c (front ++ back) l
 
 -- ---- what is said where an object was freed
 
-pub freed-state : (kind : ChainKind) (v : Version) (x : Pos) → IsVersion v → IsBefore x end_position → (s : Spot) → (state_at s (free_entry kind x v) ≡ state_at s v) ⊎ (state_at s (free_entry kind x v) ≡ state_of (found (freed_mark kind) None))
+pub freed-state : (kind : ChainKind) (v : Version) (x : Pos) → IsVersion v → IsBefore x end_position → (s : Spot) → (state_at s (free_entry kind x v) ≡ state_at s v) ⊎ (state_at s (free_entry kind x v) ≡ state_of (finding_of (freed_mark kind) None))
 freed-state kind v x i b s = ⊎_elim (λ e. inl (ap state_of e)) (λ e. inr (ap state_of e)) (take_out-seen (freed_mark kind) s x v.entries i.ascend i.ends b)
 
 -- ---- one version replaced

@@ -20,9 +20,9 @@ use Rattle.rc_mutation.specs.Cover.{cover, tombs_over}
 use Rattle.rc_mutation.specs.declared.mutations.Mutation.{Mutation}
 use Rattle.rc_mutation.specs.Source.{source_at, source_at_static, static_rows, rows_in, all_rows, all_pieces}
 use Rattle.rc_core.specs.declared.entries.ChainKind.TheVariants.{Cache}
-use Rattle.rc_core.specs.SpotState.{SpotState, through, under, lost}
+use Rattle.rc_core.specs.SpotState.{SpotState, through, under, lost_state}
 use Rattle.rc_core.specs.Version.{Spot, On, Behind, Version, state_at, static_state, end_position}
-use Rattle.rc_core.specs.Chain.{flagged, content, states_at, flag_over, IsEvenAt}
+use Rattle.rc_core.specs.Chain.{has_flag, content, states_at, flag_over, IsEvenAt}
 use Rattle.rc_core.specs.Continuity.{IsWithin, EachOf, IsContinuous, static_states}
 use Rattle.rc_core.specs.Unit.{IsGivenUp}
 use Rattle.rc_core.specs.laws.Folding.{flagged-through, content-through, through-append}
@@ -76,10 +76,10 @@ nothing_at_end writes versions h =
 
 -- ---- a lost state on top
 
-through_lost : (f : Version → SpotState) (older : List Version) (w : Version) → f w ≡ lost → through (list_map f (older ++ w ∷ [])) ≡ lost
+through_lost : (f : Version → SpotState) (older : List Version) (w : Version) → f w ≡ lost_state → through (list_map f (older ++ w ∷ [])) ≡ lost_state
 through_lost f older w e = ap through (map-append f older w []) ∙ through-append (list_map f older) (f w ∷ []) ∙ ap (λ c. under (through (list_map f older)) (under c (through []))) e
 
-pub not_flagged : (f : Version → SpotState) (older : List Version) (w : Version) → f w ≡ lost → IsTrue (flagged Cache (list_map f (older ++ w ∷ []))) → ⊥
+pub not_flagged : (f : Version → SpotState) (older : List Version) (w : Version) → f w ≡ lost_state → IsTrue (has_flag Cache (list_map f (older ++ w ∷ []))) → ⊥
 not_flagged f older w e h = let u = sym (flagged-through Cache (list_map f (older ++ w ∷ [])) ∙ ap (λ (c : SpotState). flag_over Cache c.flag) (through_lost f older w e)) ∙ h in cc
 
 pub at_itself : pos_cmp end_position end_position ≡ Equal
@@ -108,7 +108,7 @@ static_stands : (p : Place) → (place_cmp Static p ≡ Less) ⊎ (place_cmp Sta
 static_stands p = elim (place_cmp Static p) as (λ r. (r ≡ Less) ⊎ (r ≡ Less → ⊥)) [ Less ↦ inl refl | Equal ↦ inr (λ e. let u : Equal ≡ Less = e in absurd (cc)) | Greater ↦ inr (λ e. let u : Greater ≡ Less = e in absurd (cc)) ]
 
 module _ (writes : List Mutation) (older : List Version) (v w : Version) (p : Place) (g : IsGivenUp p v w) (k : IsContinuous (Some p) writes (older ++ v ∷ [])) where
-  lost_is_within : (x : Pos) → state_at (On x) w ≡ lost → IsWithin (state_at (On x) w) (source_at writes x)
+  lost_is_within : (x : Pos) → state_at (On x) w ≡ lost_state → IsWithin (state_at (On x) w) (source_at writes x)
   lost_is_within x e = subst (λ c. IsWithin c (source_at writes x)) (sym e) (lost-within (rows_in x (all_rows writes)) (source_at writes x).1)
 
   given_within : (x : Pos) → IsWithin (state_at (On x) w) (source_at writes x)
@@ -125,7 +125,7 @@ module _ (writes : List Mutation) (older : List Version) (v w : Version) (p : Pl
   each_within : (x : Pos) → EachOf (λ u. IsWithin (state_at (On x) u) (source_at writes x)) (older ++ w ∷ [])
   each_within x = each-other _ older [] v w (k.within.clustered x) (given_within x)
 
-  given_content : (x : Pos) → IsTrue (flagged Cache (states_at (On x) (older ++ w ∷ []))) → content (states_at (On x) (older ++ w ∷ [])) ≡ source_at writes x
+  given_content : (x : Pos) → IsTrue (has_flag Cache (states_at (On x) (older ++ w ∷ []))) → content (states_at (On x) (older ++ w ∷ [])) ≡ source_at writes x
   given_content x f = by (stands x p)
     where
       by : Where x p → content (states_at (On x) (older ++ w ∷ [])) ≡ source_at writes x

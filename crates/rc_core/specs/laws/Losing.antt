@@ -17,11 +17,11 @@ use Rattle.rc_mutation.specs.declared.mutations.Mutation.{Mutation}
 use Rattle.rc_core.specs.declared.entries.ChainKind.TheVariants.{Cache}
 use Rattle.rc_core.specs.declared.entries.Flag.{Flag}
 use Rattle.rc_core.specs.declared.entries.Flag.TheVariants.{Known, Unknown, Inherit}
-use Rattle.rc_core.specs.SpotState.{SpotState, over, under, through, lost, joined_state}
-use Rattle.rc_core.specs.Version.{On, Behind, Version, IsVersion, state_at, static_state, Finding, found, seen, state_of, end_position}
+use Rattle.rc_core.specs.SpotState.{SpotState, over, under, through, lost_state, joined_state}
+use Rattle.rc_core.specs.Version.{On, Behind, Version, IsVersion, state_at, static_state, Finding, finding_of, finding_in, state_of, end_position}
 use Rattle.rc_core.specs.Change.{drop_at, lose_last_gap, lost_mark}
 use Rattle.rc_core.specs.laws.Spots.{drop-seen, lose_last-seen}
-use Rattle.rc_core.specs.Chain.{flagged, content, states_at, flag_over, IsBare, IsEvenAt}
+use Rattle.rc_core.specs.Chain.{has_flag, content, states_at, flag_over, IsBare, IsEvenAt}
 use Rattle.rc_core.specs.Continuity.{IsWithin, static_states, version_tombs, HoldNoMore, IsContinuous, SameOrLost, IsSameOrLost, IsKeptOrLost, IsEvicted, EachOf, with_entries, without_statics}
 use Rattle.rc_core.specs.laws.Folding.{flagged-through, content-through}
 
@@ -82,16 +82,16 @@ flag_known Unknown h e = cc
 flag_known Inherit h e = cc
 
 -- where it is flagged, it is seen as before
-pub seen_as_before : (before now : List SpotState) → SameOrLost (through before) (through now) → IsTrue (flagged Cache now) → through now ≡ through before
+pub seen_as_before : (before now : List SpotState) → SameOrLost (through before) (through now) → IsTrue (has_flag Cache now) → through now ≡ through before
 seen_as_before before now h k = ⊎_elim (λ e. e) (λ l. absurd (flag_known (through now).flag (sym (flagged-through Cache now) ∙ k) l)) h
 
-pub same-flagged : (before now : List SpotState) → through now ≡ through before → flagged Cache now ≡ flagged Cache before
+pub same-flagged : (before now : List SpotState) → through now ≡ through before → has_flag Cache now ≡ has_flag Cache before
 same-flagged before now e = flagged-through Cache now ∙ ap (λ (c : SpotState). flag_over Cache c.flag) e ∙ sym (flagged-through Cache before)
 
 pub same-content : (before now : List SpotState) → through now ≡ through before → content now ≡ content before
 same-content before now e = content-through now ∙ ap joined_state e ∙ sym (content-through before)
 
-pub known-before : (before now : List SpotState) → SameOrLost (through before) (through now) → IsTrue (flagged Cache now) → IsTrue (flagged Cache before) × (content now ≡ content before)
+pub known-before : (before now : List SpotState) → SameOrLost (through before) (through now) → IsTrue (has_flag Cache now) → IsTrue (has_flag Cache before) × (content now ≡ content before)
 known-before before now h k = let e = seen_as_before before now h k in (sym (same-flagged before now e) ∙ k, same-content before now e)
 
 pub lost-even : (before now : List Version) (x : Pos) → SameOrLost (through (states_at (On x) before)) (through (states_at (On x) now)) → SameOrLost (through (states_at (Behind x) before)) (through (states_at (Behind x) now)) →
@@ -127,10 +127,10 @@ joined-again rows = joined_row-one (joined_row rows) (IsRow-joined_row rows)
 pub tomb-alone : (t : Option Tomb) → greatest tomb_cmp (option_to_list t) ≡ t
 tomb-alone t = greatest-one tomb_cmp_total tomb_cmp-IsAntisymmetric t
 
-pub lost-within : (rows : List Row) (t : Option Tomb) → IsWithin lost (joined_row rows, t)
+pub lost-within : (rows : List Row) (t : Option Tomb) → IsWithin lost_state (joined_row rows, t)
 lost-within rows t = (joined-again rows, ap (greatest tomb_cmp) (append-nil (option_to_list t)) ∙ tomb-alone t)
 
-kept-within : (before now : SpotState) (source : Row × Option Tomb) → IsWithin lost source → IsKeptOrLost before now → IsWithin before source → IsWithin now source
+kept-within : (before now : SpotState) (source : Row × Option Tomb) → IsWithin lost_state source → IsKeptOrLost before now → IsWithin before source → IsWithin now source
 kept-within before now source l h w = ⊎_elim (λ e. subst (λ c. IsWithin c source) (sym e) w) (λ e. subst (λ c. IsWithin c source) (sym e) l) h
 
 pub evicted-within : (writes : List Mutation) (older newer : List Version) (v w : Version) → IsEvicted v w → HoldNoMore writes (older ++ v ∷ newer) → HoldNoMore writes (older ++ w ∷ newer)
@@ -144,14 +144,14 @@ evicted-continuous reach writes older newer v w e c = same_or_lost-continuous re
 
 -- ---- each eviction
 
-found-state : (a b : Finding) → (b ≡ a) ⊎ (b ≡ found lost_mark None) → IsKeptOrLost (state_of a) (state_of b)
+found-state : (a b : Finding) → (b ≡ a) ⊎ (b ≡ finding_of lost_mark None) → IsKeptOrLost (state_of a) (state_of b)
 found-state a b h = ⊎_elim (λ e. inl (ap state_of e)) (λ e. inr (ap state_of e)) h
 
 pub entry-evicted : (v : Version) (x : Pos) → IsVersion v → IsBefore x end_position → IsEvicted v (with_entries (drop_at x v.entries) v)
-entry-evicted v x i b = record { statics = inl refl; clustered = λ s. found-state (seen s v.entries) (seen s (drop_at x v.entries)) (drop-seen s x v.entries i.ascend i.ends b); head = refl }
+entry-evicted v x i b = record { statics = inl refl; clustered = λ s. found-state (finding_in s v.entries) (finding_in s (drop_at x v.entries)) (drop-seen s x v.entries i.ascend i.ends b); head = refl }
 
 pub end-evicted : (v : Version) → IsEvicted v (with_entries (lose_last_gap v.entries) v)
-end-evicted v = record { statics = inl refl; clustered = λ s. found-state (seen s v.entries) (seen s (lose_last_gap v.entries)) (lose_last-seen s v.entries); head = refl }
+end-evicted v = record { statics = inl refl; clustered = λ s. found-state (finding_in s v.entries) (finding_in s (lose_last_gap v.entries)) (lose_last-seen s v.entries); head = refl }
 
 pub statics-evicted : (v : Version) → IsEvicted v (without_statics v)
 statics-evicted v = record { statics = inr refl; clustered = λ s. inl refl; head = refl }

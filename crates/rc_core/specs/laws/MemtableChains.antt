@@ -15,7 +15,7 @@ use Rattle.rc_core.specs.Chain.{IsEvenAt}
 use Rattle.rc_core.specs.Continuity.{EachOf}
 use Rattle.rc_core.specs.Merge.{IsPutDown, IsMerged, IsSilent, new_version}
 use Rattle.rc_core.specs.Chains.{Chain, upto, IsPinned, IsNeeded, AllInherit, IsMemtableChain, with_versions}
-use Rattle.rc_core.specs.Steps.{IsChain, add_version, all_but, renumbered, drop_version, detach, pinned, release, released, snapshot, with_pins}
+use Rattle.rc_core.specs.Steps.{IsChain, add_version, all_but, number_after_removal, drop_version, detach, pins_with, release, pins_without, snapshot, with_pins}
 use Rattle.rc_core.specs.laws.Losing.{map-append}
 use Rattle.rc_core.specs.laws.Merging.{silent-seen, new-silent, alike-even}
 use Rattle.rc_core.specs.laws.Keeping.{each_two, each_less}
@@ -104,14 +104,14 @@ dropped-memtable c front back v w vs off s t k = record {
     lengths = ap length vs ∙ omega (arith, length-cons front v (w ∷ back), length-cons front w back) ∙ ap (λ us. suc (length us)) (sym parts)
 
     -- what was seen at the version of before is seen at the same one now
-    kept : (i : ℕ) → IsPinned c.pins i ⊎ ((c.attached ≡ true) × (suc i ≡ length c.versions)) → (x : Pos) → IsEvenAt Memtable (upto (all_but (length front) c.versions) (renumbered (length front) i)) x
-    kept i was x = alike-even Memtable (upto c.versions i) (upto (all_but (length front) c.versions) (renumbered (length front) i)) x (dropped-seen-each c front back v w vs off s t i (needed_of c i was)) (k.even i was x)
+    kept : (i : ℕ) → IsPinned c.pins i ⊎ ((c.attached ≡ true) × (suc i ≡ length c.versions)) → (x : Pos) → IsEvenAt Memtable (upto (all_but (length front) c.versions) (number_after_removal (length front) i)) x
+    kept i was x = alike-even Memtable (upto c.versions i) (upto (all_but (length front) c.versions) (number_after_removal (length front) i)) x (dropped-seen-each c front back v w vs off s t i (needed_of c i was)) (k.even i was x)
 
-    below : (j : ℕ) → j < length front → IsPinned (list_map (option_map (renumbered (length front))) c.pins) j ⊎ ((c.attached ≡ true) × (suc j ≡ length (all_but (length front) c.versions))) → (x : Pos) → IsEvenAt Memtable (upto (all_but (length front) c.versions) j) x
+    below : (j : ℕ) → j < length front → IsPinned (list_map (option_map (number_after_removal (length front))) c.pins) j ⊎ ((c.attached ≡ true) × (suc j ≡ length (all_but (length front) c.versions))) → (x : Pos) → IsEvenAt Memtable (upto (all_but (length front) c.versions) j) x
     below j o need x = subst (λ n. IsEvenAt Memtable (upto (all_but (length front) c.versions) n) x) (renumbered-older (length front) j o)
         (kept j (⊎_elim (λ p. inl (pinned_older (length front) j c.pins (λ q. off (inl q)) o (pin_of (length front) j c.pins p))) (λ a. absurd (omega (arith, o, a.1, ap length parts, length-cons front w back))) need) x)
 
-    from : (m j : ℕ) → j ≡ above (length front) m → IsPinned (list_map (option_map (renumbered (length front))) c.pins) j ⊎ ((c.attached ≡ true) × (suc j ≡ length (all_but (length front) c.versions))) → (x : Pos) → IsEvenAt Memtable (upto (all_but (length front) c.versions) j) x
+    from : (m j : ℕ) → j ≡ above (length front) m → IsPinned (list_map (option_map (number_after_removal (length front))) c.pins) j ⊎ ((c.attached ≡ true) × (suc j ≡ length (all_but (length front) c.versions))) → (x : Pos) → IsEvenAt Memtable (upto (all_but (length front) c.versions) j) x
     from m j e need x = subst (λ n. IsEvenAt Memtable (upto (all_but (length front) c.versions) n) x) (renumbered-newer (length front) m ∙ sym e)
         (kept (above (length front) (suc m)) (⊎_elim
         (λ p. inl (pinned_newer (length front) m c.pins (λ q. off (inl q)) (subst (λ n. PinOf (length front) n c.pins) e (pin_of (length front) j c.pins p))))
@@ -124,7 +124,7 @@ pub fewer-memtable : (c : Chain) (pins : List (Option ℕ)) → ((j : ℕ) → I
 fewer-memtable c pins less k = record { flags = k.flags; even = λ j need. k.even j (⊎_elim (λ p. inl (less j p)) inr need) }
 
 pub released-memtable : (c : Chain) (i : ℕ) → IsMemtableChain c → IsMemtableChain (release i c)
-released-memtable c i k = fewer-memtable c (released i c.pins) (λ j p. released-pin i c.pins j p) k
+released-memtable c i k = fewer-memtable c (pins_without i c.pins) (λ j p. released-pin i c.pins j p) k
 
 pub more-memtable : (c : Chain) (pins : List (Option ℕ)) (version : ℕ) → c.attached ≡ true → suc version ≡ length c.versions → ((j : ℕ) → IsPinned pins j → IsPinned c.pins j ⊎ (j ≡ version)) → IsMemtableChain c → IsMemtableChain (with_pins pins c)
 more-memtable c pins version att e more k = record {
@@ -133,7 +133,7 @@ more-memtable c pins version att e more k = record {
 }
 
 pub snapshot-memtable : (c : Chain) (version : ℕ) → c.attached ≡ true → suc version ≡ length c.versions → IsMemtableChain c → IsMemtableChain (snapshot version c)
-snapshot-memtable c version att e k = more-memtable c (pinned version c.pins) version att e (λ j p. pinned-or-new version c.pins j p) k
+snapshot-memtable c version att e k = more-memtable c (pins_with version c.pins) version att e (λ j p. pinned-or-new version c.pins j p) k
 
 pub detached-memtable : (c : Chain) → IsMemtableChain c → IsMemtableChain (detach c)
 detached-memtable c k = record { flags = k.flags; even = λ j need. k.even j (⊎_elim inl (λ a. let u = a.0 in absurd (cc)) need) }

@@ -21,9 +21,9 @@ use Rattle.rc_core.specs.declared.entries.Entry.{Entry}
 use Rattle.rc_core.specs.declared.entries.Mark.{Mark}
 use Rattle.rc_core.specs.declared.entries.Flag.TheVariants.{Inherit}
 use Rattle.rc_core.specs.SpotState.{SpotState, spot_state, through, joined_state}
-use Rattle.rc_core.specs.Version.{Spot, On, Behind, Version, IsVersion, state_at, static_state, state_of, Finding, found, entry_answers, seen, spot_cmp, end_position, IsBeforeEnd}
-use Rattle.rc_core.specs.Change.{raised_mark, joined_onto, position_of, split, changed}
-use Rattle.rc_core.specs.Chain.{flagged, content, states_at, flag_over, IsEvenAt}
+use Rattle.rc_core.specs.Version.{Spot, On, Behind, Version, IsVersion, state_at, static_state, state_of, Finding, finding_of, entry_answers, finding_in, spot_cmp, end_position, IsBeforeEnd}
+use Rattle.rc_core.specs.Change.{raised_mark, joined_onto, position_of, gap_split, entry_changed}
+use Rattle.rc_core.specs.Chain.{has_flag, content, states_at, flag_over, IsEvenAt}
 use Rattle.rc_core.specs.Continuity.{EachOf}
 use Rattle.rc_core.specs.Chains.{Chain, upto, AllInherit, IsMemtableChain, with_versions}
 use Rattle.rc_core.specs.Steps.{IsChain, on_newest, with_newest, row_joined, range_joined, join_pt, join_statics}
@@ -51,14 +51,14 @@ even_as_before kind before now x e g even bare known =
     content1 : (s : Spot) → through (states_at s now) ≡ through (states_at s before) → (content (states_at s now)).1 ≡ (content (states_at s before)).1
     content1 s h = ap (λ (a : Row × Option Tomb). a.1) (same s h)
 
-    flag : (s : Spot) → through (states_at s now) ≡ through (states_at s before) → flagged kind (states_at s now) ≡ flagged kind (states_at s before)
+    flag : (s : Spot) → through (states_at s now) ≡ through (states_at s before) → has_flag kind (states_at s now) ≡ has_flag kind (states_at s before)
     flag s h = flagged-through kind (states_at s now) ∙ ap (λ (c : SpotState). flag_over kind c.flag) h ∙ sym (flagged-through kind (states_at s before))
 
 -- a state that inherits, on top of others
 through_top : (f : Version → SpotState) (older : List Version) (v : Version) → (f v).flag ≡ Inherit → through (list_map f (older ++ v ∷ [])) ≡ spot_state (through (list_map f older)).flag ((through (list_map f older)).rows ++ (f v).rows) ((through (list_map f older)).tombs ++ (f v).tombs)
 through_top f older v e = ap through (on_top f older v e) ∙ joins_on_top (list_map f older) (f v).rows (f v).tombs
 
-flag_top : (f : Version → SpotState) (older : List Version) (v w : Version) → (f v).flag ≡ Inherit → (f w).flag ≡ Inherit → flagged Memtable (list_map f (older ++ w ∷ [])) ≡ flagged Memtable (list_map f (older ++ v ∷ []))
+flag_top : (f : Version → SpotState) (older : List Version) (v w : Version) → (f v).flag ≡ Inherit → (f w).flag ≡ Inherit → has_flag Memtable (list_map f (older ++ w ∷ [])) ≡ has_flag Memtable (list_map f (older ++ v ∷ []))
 flag_top f older v w e d =
     flagged-through Memtable (list_map f (older ++ w ∷ []))
     ∙ ap (λ (c : SpotState). flag_over Memtable c.flag) (through_top f older w d)
@@ -80,9 +80,9 @@ cond_flag : (b : Bool) (m n : Mark) → m.flag ≡ n.flag → (cond b m n).flag 
 cond_flag true m n e = e
 cond_flag false m n e = refl
 
-changed_flag : (f : Mark → Mark) → ((m : Mark) → (f m).flag ≡ m.flag) → (s : Spot) (from to : Pos) (es : List Entry) → (seen s (list_map (changed f from to) es)).mark.flag ≡ (seen s es).mark.flag
+changed_flag : (f : Mark → Mark) → ((m : Mark) → (f m).flag ≡ m.flag) → (s : Spot) (from to : Pos) (es : List Entry) → (finding_in s (list_map (entry_changed f from to) es)).mark.flag ≡ (finding_in s es).mark.flag
 changed_flag f same s from to [] = refl
-changed_flag f same s from to (e ∷ es) = elim (spot_cmp s e.position) as (λ r. (entry_answers r (changed f from to e) (seen s (list_map (changed f from to) es))).mark.flag ≡ (entry_answers r e (seen s es)).mark.flag) [
+changed_flag f same s from to (e ∷ es) = elim (spot_cmp s e.position) as (λ r. (entry_answers r (entry_changed f from to e) (finding_in s (list_map (entry_changed f from to) es))).mark.flag ≡ (entry_answers r e (finding_in s es)).mark.flag) [
   | Less ↦ cond_flag (is_lt (pos_cmp from e.position) && is_le (pos_cmp e.position to)) (f e.gap) e.gap (same e.gap)
   | Equal ↦ cond_flag (covers from to e.position) (f e.at) e.at (same e.at)
   | Greater ↦ changed_flag f same s from to es
@@ -93,7 +93,7 @@ module _ (older : List Version) (v : Version) (i : IsVersion v) (ai : AllInherit
     abbrev with_row : Version
     with_row = row_joined p row v
 
-    pub row_there : state_at (On p) with_row ≡ spot_state (state_at (On p) v).flag (joined_onto (seen (On p) v.entries).row row ∷ []) (state_at (On p) v).tombs
+    pub row_there : state_at (On p) with_row ≡ spot_state (state_at (On p) v).flag (joined_onto (finding_in (On p) v.entries).row row ∷ []) (state_at (On p) v).tombs
     row_there = ap state_of (join_row-there p row v.entries i.ends)
 
     pub row_other : (s : Spot) → (spot_cmp s p ≡ Equal → ⊥) → state_at s with_row ≡ state_at s v
@@ -132,7 +132,7 @@ module _ (older : List Version) (v : Version) (i : IsVersion v) (ai : AllInherit
         was_bare : (content (states_at (On p) (older ++ v ∷ []))).0 ≡ empty_row
         was_bare =
             ap (λ (a : Row × Option Tomb). a.0) (content_top (state_at (On p)) older v (ai.clustered (On p)))
-            ∙ nothing_before (through (states_at (On p) older)).rows (seen (On p) v.entries).row row
+            ∙ nothing_before (through (states_at (On p) older)).rows (finding_in (On p) v.entries).row row
             (sym (ap (λ (a : Row × Option Tomb). a.0) (content_top (state_at (On p)) older with_row (spot_flag (On p))) ∙ ap (λ (c : SpotState). joined_row ((through (states_at (On p) older)).rows ++ c.rows)) row_there) ∙ bare.no_row)
 
     pub row-even : (x : Pos) → IsEvenAt Memtable (older ++ v ∷ []) x → IsEvenAt Memtable (older ++ with_row ∷ []) x
@@ -151,14 +151,14 @@ module _ (older : List Version) (v : Version) (i : IsVersion v) (ai : AllInherit
     abbrev with_range : Version
     with_range = range_joined from to tomb v
 
-    range_state : (s : Spot) → IsBeforeEnd s v.entries → state_at s with_range ≡ state_of (cond (covers from to (position_of s)) (found (raised_mark (Some tomb) (seen s v.entries).mark) (seen s v.entries).row) (seen s v.entries))
+    range_state : (s : Spot) → IsBeforeEnd s v.entries → state_at s with_range ≡ state_of (cond (covers from to (position_of s)) (finding_of (raised_mark (Some tomb) (finding_in s v.entries).mark) (finding_in s v.entries).row) (finding_in s v.entries))
     range_state s b = ap state_of (change-seen (raised_mark (Some tomb)) s from to v.entries b)
 
-    pub range_inside : (s : Spot) → IsBeforeEnd s v.entries → covers from to (position_of s) ≡ true → state_at s with_range ≡ spot_state (state_at s v).flag (state_at s v).rows (option_to_list (greater tomb_cmp (seen s v.entries).mark.tomb (Some tomb)))
-    range_inside s b c = range_state s b ∙ ap (λ t. state_of (cond t (found (raised_mark (Some tomb) (seen s v.entries).mark) (seen s v.entries).row) (seen s v.entries))) c
+    pub range_inside : (s : Spot) → IsBeforeEnd s v.entries → covers from to (position_of s) ≡ true → state_at s with_range ≡ spot_state (state_at s v).flag (state_at s v).rows (option_to_list (greater tomb_cmp (finding_in s v.entries).mark.tomb (Some tomb)))
+    range_inside s b c = range_state s b ∙ ap (λ t. state_of (cond t (finding_of (raised_mark (Some tomb) (finding_in s v.entries).mark) (finding_in s v.entries).row) (finding_in s v.entries))) c
 
     pub range_outside : (s : Spot) → IsBeforeEnd s v.entries → covers from to (position_of s) ≡ false → state_at s with_range ≡ state_at s v
-    range_outside s b c = range_state s b ∙ ap (λ t. state_of (cond t (found (raised_mark (Some tomb) (seen s v.entries).mark) (seen s v.entries).row) (seen s v.entries))) c
+    range_outside s b c = range_state s b ∙ ap (λ t. state_of (cond t (finding_of (raised_mark (Some tomb) (finding_in s v.entries).mark) (finding_in s v.entries).row) (finding_in s v.entries))) c
 
     on : (x : Pos) → IsBeforeEnd (On x) v.entries
     on x = position-reached x v.entries i.ends
@@ -167,7 +167,7 @@ module _ (older : List Version) (v : Version) (i : IsVersion v) (ai : AllInherit
     gap x b = gap-reached x v.entries i.ends b
 
     range_flag : (s : Spot) → (state_at s with_range).flag ≡ Inherit
-    range_flag s = changed_flag (raised_mark (Some tomb)) (λ _. refl) s from to (split to (split from v.entries)) ∙ ap (λ (a : Finding). a.mark.flag) (split-seen s to (split from v.entries) ∙ split-seen s from v.entries) ∙ ai.clustered s
+    range_flag s = changed_flag (raised_mark (Some tomb)) (λ _. refl) s from to (gap_split to (gap_split from v.entries)) ∙ ap (λ (a : Finding). a.mark.flag) (split-seen s to (gap_split from v.entries) ∙ split-seen s from v.entries) ∙ ai.clustered s
 
     pub range-inherits : AllInherit with_range
     range-inherits = record { statics = ai.statics; clustered = range_flag }
@@ -178,7 +178,7 @@ module _ (older : List Version) (v : Version) (i : IsVersion v) (ai : AllInherit
     tomb_seen s b c =
         ap (λ (a : Row × Option Tomb). a.1) (content_top (state_at s) older with_range (range_flag s))
         ∙ ap (λ (k : SpotState). greatest tomb_cmp ((through (states_at s older)).tombs ++ k.tombs)) (range_inside s b c)
-        ∙ raised_on_top (through (states_at s older)).tombs (seen s v.entries).mark.tomb
+        ∙ raised_on_top (through (states_at s older)).tombs (finding_in s v.entries).mark.tomb
         ∙ ap (λ t. greatest tomb_cmp (option_to_list t ++ tomb ∷ [])) (ap (λ (a : Row × Option Tomb). a.1) (sym (content_top (state_at s) older v (ai.clustered s))))
       where
         raised_on_top : (ts : List Tomb) (t : Option Tomb) → greatest tomb_cmp (ts ++ option_to_list (greater tomb_cmp t (Some tomb))) ≡ greatest tomb_cmp (option_to_list (greatest tomb_cmp (ts ++ option_to_list t)) ++ tomb ∷ [])

@@ -15,7 +15,7 @@ use Rattle.rc_core.specs.Continuity.{IsWithin, HoldNoMore, IsContinuous}
 use Rattle.rc_core.specs.Merge.{IsPutDown, IsMerged, IsSilent, IsSeenAlike}
 use Rattle.rc_core.specs.AtPlace.{IsAtPlace}
 use Rattle.rc_core.specs.Chains.{Chain, upto, phase_at, HasReach, IsNeeded, IsPinned, IsUpdating, NewestIs, IsChainContinuous, with_versions}
-use Rattle.rc_core.specs.Steps.{IsChain, renumbered, all_but, drop_version}
+use Rattle.rc_core.specs.Steps.{IsChain, number_after_removal, all_but, drop_version}
 use Rattle.rc_core.specs.laws.Losing.{each-one, each-other}
 use Rattle.rc_core.specs.laws.Merging.{merged-seen, dropped-seen}
 use Rattle.rc_core.specs.laws.Keeping.{within_nothing, merged-within, merged-continuous, dropped-within, dropped-continuous, each_two, each_less}
@@ -104,12 +104,12 @@ module _ (older back : List Version) (a b x y : Version) where
 
 -- ---- a dropped version
 
-pub renumbered-older : (n j : ℕ) → j < n → renumbered n j ≡ j
+pub renumbered-older : (n j : ℕ) → j < n → number_after_removal n j ≡ j
 renumbered-older zero j l = absurd (omega (arith, l))
 renumbered-older (suc n) zero l = refl
 renumbered-older (suc n) (suc j) l = ap suc (renumbered-older n j (omega (arith, l)))
 
-pub renumbered-newer : (n k : ℕ) → renumbered n (above n (suc k)) ≡ above n k
+pub renumbered-newer : (n k : ℕ) → number_after_removal n (above n (suc k)) ≡ above n k
 renumbered-newer zero k = refl
 renumbered-newer (suc n) k = ap suc (renumbered-newer n k)
 
@@ -121,9 +121,9 @@ all_but-parts (o ∷ os) rest v = ap (λ vs. o ∷ vs) (all_but-parts os rest v)
 pub record PinOf (n j : ℕ) (pins : List (Option ℕ)) : Type 0 where
   pub number : ℕ
   pub pinned : IsPinned pins number
-  pub is : j ≡ renumbered n number
+  pub is : j ≡ number_after_removal n number
 
-pub pin_of : (n j : ℕ) (pins : List (Option ℕ)) → IsPinned (list_map (option_map (renumbered n)) pins) j → PinOf n j pins
+pub pin_of : (n j : ℕ) (pins : List (Option ℕ)) → IsPinned (list_map (option_map (number_after_removal n)) pins) j → PinOf n j pins
 pin_of n j [] h = absurd h
 pin_of n j (None ∷ ps) h = ⊎_elim
     (λ e. let u : None ≡ Some j = e in absurd (cc))
@@ -143,7 +143,7 @@ pinned_older n j pins off l r = ⊎_elim
   where
     from : (k : ℕ) → r.number ≡ above n k → IsPinned pins j
     from zero e = absurd (off (subst (IsPinned pins) (e ∙ above-zero n) r.pinned))
-    from (suc k) e = absurd (omega (arith, l, r.is ∙ ap (renumbered n) e ∙ renumbered-newer n k, above-is n k))
+    from (suc k) e = absurd (omega (arith, l, r.is ∙ ap (number_after_removal n) e ∙ renumbered-newer n k, above-is n k))
 
 pub pinned_newer : (n k : ℕ) (pins : List (Option ℕ)) → (IsPinned pins n → ⊥) → PinOf n (above n k) pins → IsPinned pins (above n (suc k))
 pinned_newer n k pins off r = ⊎_elim
@@ -153,14 +153,14 @@ pinned_newer n k pins off r = ⊎_elim
   where
     from : (m : ℕ) → r.number ≡ above n m → IsPinned pins (above n (suc k))
     from zero e = absurd (off (subst (IsPinned pins) (e ∙ above-zero n) r.pinned))
-    from (suc m) e = subst (IsPinned pins) (e ∙ omega (arith, r.is ∙ ap (renumbered n) e ∙ renumbered-newer n m, above-is n k, above-is n m, above-is n (suc k), above-is n (suc m))) r.pinned
+    from (suc m) e = subst (IsPinned pins) (e ∙ omega (arith, r.is ∙ ap (number_after_removal n) e ∙ renumbered-newer n m, above-is n k, above-is n m, above-is n (suc k), above-is n (suc m))) r.pinned
 
 module _ (older back : List Version) (v w : Version) (c : Chain) where
   abbrev kept : Chain
   kept = with_versions (older ++ v ∷ w ∷ back) c
 
   abbrev less : Chain
-  less = record { kind = c.kind; versions = older ++ w ∷ back; attached = c.attached; updating = c.updating; pins = list_map (option_map (renumbered (length older))) c.pins }
+  less = record { kind = c.kind; versions = older ++ w ∷ back; attached = c.attached; updating = c.updating; pins = list_map (option_map (number_after_removal (length older))) c.pins }
 
   lengths : length (older ++ v ∷ w ∷ back) ≡ suc (length (older ++ w ∷ back))
   lengths = omega (arith, length-cons older v (w ∷ back), length-cons older w back)
@@ -247,13 +247,13 @@ merged-form c older back a b x y vs i k ch = merged-is older back a b x y c (sub
 pub dropped-whole : (below : ℕ → List Mutation) (c : Chain) (older back : List Version) (v w : Version) → c.versions ≡ older ++ v ∷ w ∷ back → (IsNeeded c (length older) → ⊥) → IsSilent v →
     greatest tomb_cmp (option_to_list v.pt ++ option_to_list w.pt) ≡ greatest tomb_cmp (option_to_list w.pt) → IsChainContinuous below c → IsChainContinuous below (drop_version (length older) c)
 dropped-whole below c older back v w vs off s t k =
-    subst (λ us. IsChainContinuous below (record { kind = c.kind; versions = us; attached = c.attached; updating = c.updating; pins = list_map (option_map (renumbered (length older))) c.pins }))
+    subst (λ us. IsChainContinuous below (record { kind = c.kind; versions = us; attached = c.attached; updating = c.updating; pins = list_map (option_map (number_after_removal (length older))) c.pins }))
     (sym (ap (all_but (length older)) vs ∙ all_but-parts older (w ∷ back) v))
     (dropped-chain older back v w c (subst (λ us. IsNeeded (with_versions us c) (length older) → ⊥) vs off) below s t (subst (λ us. IsChainContinuous below (with_versions us c)) vs k))
 
 pub dropped-form : (c : Chain) (older back : List Version) (v w : Version) → c.versions ≡ older ++ v ∷ w ∷ back → (IsNeeded c (length older) → ⊥) → IsChain c → IsChain (drop_version (length older) c)
 dropped-form c older back v w vs off ch =
-    subst (λ us. IsChain (record { kind = c.kind; versions = us; attached = c.attached; updating = c.updating; pins = list_map (option_map (renumbered (length older))) c.pins }))
+    subst (λ us. IsChain (record { kind = c.kind; versions = us; attached = c.attached; updating = c.updating; pins = list_map (option_map (number_after_removal (length older))) c.pins }))
     (sym (ap (all_but (length older)) vs ∙ all_but-parts older (w ∷ back) v))
     (dropped-is older back v w c (subst (λ us. IsNeeded (with_versions us c) (length older) → ⊥) vs off) (subst (λ us. IsChain (with_versions us c)) vs ch))
 
@@ -278,19 +278,19 @@ merged-seen-each c older back a b x y vs off m j need = ⊎_elim
 
 pub dropped-seen-each : (c : Chain) (older back : List Version) (v w : Version) → c.versions ≡ older ++ v ∷ w ∷ back → (IsNeeded c (length older) → ⊥) → IsSilent v →
     greatest tomb_cmp (option_to_list v.pt ++ option_to_list w.pt) ≡ greatest tomb_cmp (option_to_list w.pt) → (j : ℕ) → IsNeeded c j →
-    IsSeenAlike (upto c.versions j) (upto (all_but (length older) c.versions) (renumbered (length older) j))
+    IsSeenAlike (upto c.versions j) (upto (all_but (length older) c.versions) (number_after_removal (length older) j))
 dropped-seen-each c older back v w vs off s t j need =
-    subst (λ us. IsSeenAlike (upto c.versions j) (upto us (renumbered (length older) j))) (sym (ap (all_but (length older)) vs ∙ all_but-parts older (w ∷ back) v))
-    (subst (λ us. IsSeenAlike (upto us j) (upto (older ++ w ∷ back) (renumbered (length older) j))) (sym vs)
+    subst (λ us. IsSeenAlike (upto c.versions j) (upto us (number_after_removal (length older) j))) (sym (ap (all_but (length older)) vs ∙ all_but-parts older (w ∷ back) v))
+    (subst (λ us. IsSeenAlike (upto us j) (upto (older ++ w ∷ back) (number_after_removal (length older) j))) (sym vs)
     (⊎_elim
     (λ o. subst (λ n. IsSeenAlike (upto (older ++ v ∷ w ∷ back) j) (upto (older ++ w ∷ back) n)) (sym (renumbered-older (length older) j o))
     (subst (IsSeenAlike (upto (older ++ v ∷ w ∷ back) j)) (ap (λ (z : Stand). z.1) (stand-older j older (v ∷ w ∷ back) o ∙ sym (stand-older j older (w ∷ back) o))) (seen_itself (upto (older ++ v ∷ w ∷ back) j))))
     (λ n. from n.0 n.1)
     (older_or_from j (length older))))
   where
-    from : (k : ℕ) → j ≡ above (length older) k → IsSeenAlike (upto (older ++ v ∷ w ∷ back) j) (upto (older ++ w ∷ back) (renumbered (length older) j))
+    from : (k : ℕ) → j ≡ above (length older) k → IsSeenAlike (upto (older ++ v ∷ w ∷ back) j) (upto (older ++ w ∷ back) (number_after_removal (length older) j))
     from zero e = absurd (off (subst (IsNeeded c) (e ∙ above-zero (length older)) need))
     from (suc k) e =
-        subst (λ us. IsSeenAlike us (upto (older ++ w ∷ back) (renumbered (length older) j))) (sym (ap (λ (z : Stand). z.1) (ap (stand (older ++ v ∷ w ∷ back)) e ∙ stand-from (suc k) older (v ∷ w ∷ back))))
-        (subst (IsSeenAlike (older ++ v ∷ w ∷ take k back)) (sym (ap (λ (z : Stand). z.1) (ap (λ n. stand (older ++ w ∷ back) (renumbered (length older) n)) e ∙ ap (stand (older ++ w ∷ back)) (renumbered-newer (length older) k) ∙ stand-from k older (w ∷ back))))
+        subst (λ us. IsSeenAlike us (upto (older ++ w ∷ back) (number_after_removal (length older) j))) (sym (ap (λ (z : Stand). z.1) (ap (stand (older ++ v ∷ w ∷ back)) e ∙ stand-from (suc k) older (v ∷ w ∷ back))))
+        (subst (IsSeenAlike (older ++ v ∷ w ∷ take k back)) (sym (ap (λ (z : Stand). z.1) (ap (λ n. stand (older ++ w ∷ back) (number_after_removal (length older) n)) e ∙ ap (stand (older ++ w ∷ back)) (renumbered-newer (length older) k) ∙ stand-from k older (w ∷ back))))
         (dropped-seen older (take k back) v w s t))

@@ -28,9 +28,9 @@ use Rattle.rc_core.specs.declared.entries.ChainKind.TheVariants.{Cache}
 use Rattle.rc_core.specs.declared.entries.Flag.{Flag}
 use Rattle.rc_core.specs.declared.entries.Flag.TheVariants.{Known, Unknown, Inherit}
 use Rattle.rc_core.specs.SpotState.{SpotState, spot_state, silent, over, under, through, joined_state}
-use Rattle.rc_core.specs.Version.{Spot, On, Behind, Version, state_at, static_state, state_of, entry_answers, found, spot_cmp, end_position}
+use Rattle.rc_core.specs.Version.{Spot, On, Behind, Version, state_at, static_state, state_of, entry_answers, finding_of, spot_cmp, end_position}
 use Rattle.rc_core.specs.Change.{dummy, mark}
-use Rattle.rc_core.specs.Chain.{flagged, content, states_at, flag_over, IsBare, IsKnown, IsEvenAt}
+use Rattle.rc_core.specs.Chain.{has_flag, content, states_at, flag_over, IsBare, IsKnown, IsEvenAt}
 use Rattle.rc_core.specs.Continuity.{static_states, version_tombs, HoldNoMore, IsContinuous}
 use Rattle.rc_core.specs.Merge.{Alike, IsSeenAlike, IsPutDown, IsMerged, IsSilent, new_version}
 use Rattle.rc_core.specs.laws.Folding.{flagged-through, content-through, through-append, under-above, under-below, under-grouping}
@@ -132,7 +132,7 @@ dropped-seen older newer v w h t = record {
       ∙ sym (ap (greatest tomb_cmp) (pts_two older newer v w));
 }
 
-silent_end : (r : Ordering) → state_of (entry_answers r (dummy end_position (mark Inherit None)) (found (mark Inherit None) None)) ≡ silent
+silent_end : (r : Ordering) → state_of (entry_answers r (dummy end_position (mark Inherit None)) (finding_of (mark Inherit None) None)) ≡ silent
 silent_end Less = refl
 silent_end Equal = refl
 silent_end Greater = refl
@@ -142,7 +142,7 @@ new-silent pt phase = record { statics = refl; clustered = λ s. silent_end (spo
 
 -- ---- seen alike keeps continuity
 
-alike-flagged : (kind : ChainKind) (before now : List SpotState) → Alike (through now) (through before) → flagged kind now ≡ flagged kind before
+alike-flagged : (kind : ChainKind) (before now : List SpotState) → Alike (through now) (through before) → has_flag kind now ≡ has_flag kind before
 alike-flagged kind before now h = flagged-through kind now ∙ ap (flag_over kind) h.0 ∙ sym (flagged-through kind before)
 
 alike-content : (before now : List SpotState) → Alike (through now) (through before) → content now ≡ content before
@@ -184,7 +184,7 @@ alike-continuous reach writes before now h within k = record {
 pub joins_on_top : (cs : List SpotState) (rs : List Row) (ts : List Tomb) → through (cs ++ spot_state Inherit rs ts ∷ []) ≡ spot_state (through cs).flag ((through cs).rows ++ rs) ((through cs).tombs ++ ts)
 joins_on_top cs rs ts = through-append cs (spot_state Inherit rs ts ∷ []) ∙ ap (under (through cs)) (under-above (spot_state Inherit rs ts))
 
-pub update-flagged : (kind : ChainKind) (cs : List SpotState) (rs : List Row) (ts : List Tomb) → flagged kind (cs ++ spot_state Inherit rs ts ∷ []) ≡ flagged kind cs
+pub update-flagged : (kind : ChainKind) (cs : List SpotState) (rs : List Row) (ts : List Tomb) → has_flag kind (cs ++ spot_state Inherit rs ts ∷ []) ≡ has_flag kind cs
 update-flagged kind cs rs ts = flagged-through kind (cs ++ spot_state Inherit rs ts ∷ []) ∙ ap (λ (k : SpotState). flag_over kind k.flag) (joins_on_top cs rs ts) ∙ sym (flagged-through kind cs)
 
 pub rows_in-append : (x : Pos) (xs ys : _) → rows_in x (xs ++ ys) ≡ rows_in x xs ++ rows_in x ys

@@ -16,8 +16,8 @@ use Rattle.rc_mutation.specs.declared.mutations.Mutation.{Mutation}
 use Rattle.rc_mutation.specs.Source.{source_at, source_at_static, source_at_head, static_rows, rows_in, all_rows}
 use Rattle.rc_core.specs.declared.entries.ChainKind.TheVariants.{Memtable, Cache}
 use Rattle.rc_core.specs.declared.entries.Flag.TheVariants.{Unknown, Inherit}
-use Rattle.rc_core.specs.SpotState.{lost}
-use Rattle.rc_core.specs.Version.{On, Behind, Version, IsVersion, state_at, static_state, state_of, entry_answers, found, end_position}
+use Rattle.rc_core.specs.SpotState.{lost_state}
+use Rattle.rc_core.specs.Version.{On, Behind, Version, IsVersion, state_at, static_state, state_of, entry_answers, finding_of, end_position}
 use Rattle.rc_core.specs.Change.{dummy, mark}
 use Rattle.rc_core.specs.Chain.{IsEvenAt}
 use Rattle.rc_core.specs.Continuity.{IsWithin, HoldNoMore, IsContinuous}
@@ -39,10 +39,10 @@ module _ (pt : Option Tomb) (statics : Option Row) (phase : ℕ) where
   abbrev v : Version
   v = opened_version pt statics phase
 
-  opened_spot : (x : Pos) → state_at (On x) v ≡ lost
+  opened_spot : (x : Pos) → state_at (On x) v ≡ lost_state
   opened_spot x = by (pos_cmp x end_position) refl
     where
-      by : (r : Ordering) → pos_cmp x end_position ≡ r → state_of (entry_answers r (dummy end_position (mark Unknown None)) (found (mark Inherit None) None)) ≡ lost
+      by : (r : Ordering) → pos_cmp x end_position ≡ r → state_of (entry_answers r (dummy end_position (mark Unknown None)) (finding_of (mark Inherit None) None)) ≡ lost_state
       by Less e = refl
       by Equal e = refl
       by Greater e = let u : false ≡ true = sym (last_pos-greatest x) ∙ ap is_gt e in absurd (cc)

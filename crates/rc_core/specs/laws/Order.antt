@@ -11,7 +11,7 @@ use Rattle.rc_position.specs.laws.Orders.{pos_cmp_total}
 use Rattle.rc_core.specs.declared.entries.Entry.{Entry}
 use Rattle.rc_core.specs.declared.entries.Mark.{Mark}
 use Rattle.rc_core.specs.Version.{Version, IsVersion, Ascend, EndsWithDummy, end_position}
-use Rattle.rc_core.specs.Change.{split, split_by, changed, change, at_entry, with_row, with_mark, known_with, join_row_at, fill_row, take_out, with_gap, with_first_gap, lose_last_gap}
+use Rattle.rc_core.specs.Change.{gap_split, split_by, entry_changed, change, at_entry, with_row, with_mark, known_with, join_row_at, fill_row, take_out, with_gap, with_first_gap, lose_last_gap}
 use Rattle.rc_core.specs.Continuity.{with_entries}
 use Rattle.rc_core.specs.laws.Spots.{turn_to}
 
@@ -38,29 +38,29 @@ ends-cons e (f ∷ es) d = d
 
 -- ---- split
 
-split-first : (p x : Pos) (es : List Entry) → IsBefore p x → IsAhead p es → IsAhead p (split x es)
+split-first : (p x : Pos) (es : List Entry) → IsBefore p x → IsAhead p es → IsAhead p (gap_split x es)
 split-first p x [] l h = h
-split-first p x (e ∷ es) l h = elim (pos_cmp x e.position) as (λ r. IsAhead p (split_by r x e es (split x es))) [ Less ↦ l | Equal ↦ h | Greater ↦ h ]
+split-first p x (e ∷ es) l h = elim (pos_cmp x e.position) as (λ r. IsAhead p (split_by r x e es (gap_split x es))) [ Less ↦ l | Equal ↦ h | Greater ↦ h ]
 
-pub split-ascends : (x : Pos) (es : List Entry) → Ascend es → Ascend (split x es)
+pub split-ascends : (x : Pos) (es : List Entry) → Ascend es → Ascend (gap_split x es)
 split-ascends x [] a = a
-split-ascends x (e ∷ es) a = elim (pos_cmp x e.position) as (λ r. pos_cmp x e.position ≡ r → Ascend (split_by r x e es (split x es))) [
+split-ascends x (e ∷ es) a = elim (pos_cmp x e.position) as (λ r. pos_cmp x e.position ≡ r → Ascend (split_by r x e es (gap_split x es))) [
   | Less ↦ λ l. (l, a)
   | Equal ↦ λ _. a
-  | Greater ↦ λ l. ascend-cons e (split x es) (split-first e.position x es (turn_to x e.position Greater l) (ascend-first e es a)) (split-ascends x es (ascend-rest e es a))
+  | Greater ↦ λ l. ascend-cons e (gap_split x es) (split-first e.position x es (turn_to x e.position Greater l) (ascend-first e es a)) (split-ascends x es (ascend-rest e es a))
 ] refl
 
-pub split-ends : (x : Pos) (es : List Entry) → EndsWithDummy es → EndsWithDummy (split x es)
+pub split-ends : (x : Pos) (es : List Entry) → EndsWithDummy es → EndsWithDummy (gap_split x es)
 split-ends x [] d = d
 split-ends x (e ∷ []) d = elim (pos_cmp x e.position) as (λ r. pos_cmp x e.position ≡ r → EndsWithDummy (split_by r x e [] [])) [
   | Less ↦ λ _. d
   | Equal ↦ λ _. d
   | Greater ↦ λ l. d
 ] refl
-split-ends x (e ∷ f ∷ es) d = elim (pos_cmp x e.position) as (λ r. EndsWithDummy (split_by r x e (f ∷ es) (split x (f ∷ es)))) [
+split-ends x (e ∷ f ∷ es) d = elim (pos_cmp x e.position) as (λ r. EndsWithDummy (split_by r x e (f ∷ es) (gap_split x (f ∷ es)))) [
   | Less ↦ d
   | Equal ↦ d
-  | Greater ↦ ends-cons e (split x (f ∷ es)) (split-ends x (f ∷ es) d)
+  | Greater ↦ ends-cons e (gap_split x (f ∷ es)) (split-ends x (f ∷ es) d)
 ]
 
 -- ---- each entry in its place
@@ -77,8 +77,8 @@ ends-map g same row (e ∷ f ∷ es) d = ends-map g same row (f ∷ es) d
 
 pub change-is : (f : Mark → Mark) (from to : Pos) (v : Version) → IsVersion v → IsVersion (with_entries (change f from to v.entries) v)
 change-is f from to v i = record {
-  ascend = ascend-map (changed f from to) (λ _. refl) (split to (split from v.entries)) (split-ascends to (split from v.entries) (split-ascends from v.entries i.ascend));
-  ends = ends-map (changed f from to) (λ _. refl) (λ _ _. refl) (split to (split from v.entries)) (split-ends to (split from v.entries) (split-ends from v.entries i.ends));
+  ascend = ascend-map (entry_changed f from to) (λ _. refl) (gap_split to (gap_split from v.entries)) (split-ascends to (gap_split from v.entries) (split-ascends from v.entries i.ascend));
+  ends = ends-map (entry_changed f from to) (λ _. refl) (λ _ _. refl) (gap_split to (gap_split from v.entries)) (split-ends to (gap_split from v.entries) (split-ends from v.entries i.ends));
 }
 
 pub put_position : (b : Bool) (f e : Entry) → f.position ≡ e.position → (cond b f e).position ≡ e.position
@@ -98,8 +98,8 @@ at_entry-ends x f b same es d =
 
 pub join_row-is : (x : Pos) (row : Row) (v : Version) → IsBefore x end_position → IsVersion v → IsVersion (with_entries (join_row_at x row v.entries) v)
 join_row-is x row v b i = record {
-  ascend = at_entry-ascends x (with_row row) (λ _. refl) (split x v.entries) (split-ascends x v.entries i.ascend);
-  ends = at_entry-ends x (with_row row) b (λ _. refl) (split x v.entries) (split-ends x v.entries i.ends);
+  ascend = at_entry-ascends x (with_row row) (λ _. refl) (gap_split x v.entries) (split-ascends x v.entries i.ascend);
+  ends = at_entry-ends x (with_row row) b (λ _. refl) (gap_split x v.entries) (split-ends x v.entries i.ends);
 }
 
 pub fill_row-is : (x : Pos) (row : Row) (tomb : Option Tomb) (v : Version) → IsBefore x end_position → IsVersion v → IsVersion (with_entries (fill_row x row tomb v.entries) v)
@@ -108,7 +108,7 @@ fill_row-is x row tomb v b i = let j = join_row-is x row v b i in record {
   ends = at_entry-ends x (with_mark (known_with tomb)) b (λ _. refl) (join_row_at x row v.entries) j.ends;
 }
 
-pub split-is : (x : Pos) (v : Version) → IsVersion v → IsVersion (with_entries (split x v.entries) v)
+pub split-is : (x : Pos) (v : Version) → IsVersion v → IsVersion (with_entries (gap_split x v.entries) v)
 split-is x v i = record { ascend = split-ascends x v.entries i.ascend; ends = split-ends x v.entries i.ends }
 
 -- ---- an entry taken out

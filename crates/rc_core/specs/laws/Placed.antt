@@ -16,8 +16,8 @@ use Rattle.rc_core.specs.declared.entries.Entry.{Entry}
 use Rattle.rc_core.specs.declared.entries.Flag.TheVariants.{Inherit}
 use Rattle.rc_core.specs.declared.entries.Mark.{Mark}
 use Rattle.rc_core.specs.SpotState.{SpotState, silent}
-use Rattle.rc_core.specs.Version.{Spot, On, Behind, gap_ordering as behind_of, spot_cmp, entry_answers, found, seen, state_of, Ascend, Version, IsVersion, end_position}
-use Rattle.rc_core.specs.Change.{mark, position_of, dummy, split, split_by, take_out, with_gap, with_first_gap, drop_at, lost_mark}
+use Rattle.rc_core.specs.Version.{Spot, On, Behind, gap_ordering as behind_of, spot_cmp, entry_answers, finding_of, finding_in, state_of, Ascend, Version, IsVersion, end_position}
+use Rattle.rc_core.specs.Change.{mark, position_of, dummy, gap_split, split_by, take_out, with_gap, with_first_gap, drop_at, lost_mark}
 use Rattle.rc_core.specs.AtPlace.{EachEntry, FitsBy, FitsPlace, SaysNothingAt, HasEntryAt, EndsBehind, IsAtPlace}
 use Rattle.rc_core.specs.Continuity.{with_entries, without_statics}
 use Rattle.rc_core.specs.Merge.{new_version}
@@ -38,9 +38,9 @@ pub each-wider : (P Q : Entry → Type 0) → ((e : Entry) → P e → Q e) → 
 each-wider P Q h [] a = tt
 each-wider P Q h (e ∷ es) a = (h e a.0, each-wider P Q h es a.1)
 
-pub each-split : (P : Entry → Type 0) (x : Pos) → ((m : Mark) → P (dummy x m)) → (es : List Entry) → EachEntry P es → EachEntry P (split x es)
+pub each-split : (P : Entry → Type 0) (x : Pos) → ((m : Mark) → P (dummy x m)) → (es : List Entry) → EachEntry P es → EachEntry P (gap_split x es)
 each-split P x d [] a = tt
-each-split P x d (e ∷ es) a = elim (pos_cmp x e.position) as (λ r. EachEntry P (split_by r x e es (split x es))) [
+each-split P x d (e ∷ es) a = elim (pos_cmp x e.position) as (λ r. EachEntry P (split_by r x e es (gap_split x es))) [
   | Less ↦ (d e.gap, a)
   | Equal ↦ a
   | Greater ↦ (a.0, each-split P x d es a.1)
@@ -64,9 +64,9 @@ each-at Q x (e ∷ es) a h = ⊎_elim (λ d. subst Q d a.0) (λ k. each-at Q x e
 
 -- ---- an entry that stands at a position
 
-pub has-split : (x y : Pos) (es : List Entry) → HasEntryAt y es → HasEntryAt y (split x es)
+pub has-split : (x y : Pos) (es : List Entry) → HasEntryAt y es → HasEntryAt y (gap_split x es)
 has-split x y [] h = absurd h
-has-split x y (e ∷ es) h = elim (pos_cmp x e.position) as (λ r. HasEntryAt y (split_by r x e es (split x es))) [
+has-split x y (e ∷ es) h = elim (pos_cmp x e.position) as (λ r. HasEntryAt y (split_by r x e es (gap_split x es))) [
   | Less ↦ inr h
   | Equal ↦ h
   | Greater ↦ ⊎_elim inl (λ k. inr (has-split x y es k)) h
@@ -107,18 +107,18 @@ untouched_ahead m x (e ∷ es) a h =
     ∙ ap (λ xs. e ∷ xs) (untouched_ahead m x es (ascend-tail e es a) (ahead_still x e es h a))
 
 -- the first entry gone, where one stands at y behind it
-first_gone : (m : Mark) (y : Pos) (s : Spot) (e : Entry) (es : List Entry) → Ascend (e ∷ es) → HasEntryAt y es → (pos_cmp (position_of s) y ≡ Less → ⊥) → seen s (with_first_gap m es) ≡ seen s (e ∷ es)
+first_gone : (m : Mark) (y : Pos) (s : Spot) (e : Entry) (es : List Entry) → Ascend (e ∷ es) → HasEntryAt y es → (pos_cmp (position_of s) y ≡ Less → ⊥) → finding_in s (with_first_gap m es) ≡ finding_in s (e ∷ es)
 first_gone m y s e [] a h off = absurd h
 first_gone m y s e (f ∷ fs) a h off = behind_both m s e f fs a.0 (λ k. off (⊎_elim
     (λ d. subst (λ z. pos_cmp (position_of s) z ≡ Less) d (spot-Less s f.position k))
     (λ g. pos_cmp_total.trans (position_of s) f.position y (spot-Less s f.position k) (ahead_of y f fs a.1 g))
     h))
 
-pub taken_out-from : (m : Mark) (x y : Pos) (s : Spot) (es : List Entry) → Ascend es → HasEntryAt y es → pos_cmp x y ≡ Less → (pos_cmp (position_of s) y ≡ Less → ⊥) → seen s (take_out m x es) ≡ seen s es
+pub taken_out-from : (m : Mark) (x y : Pos) (s : Spot) (es : List Entry) → Ascend es → HasEntryAt y es → pos_cmp x y ≡ Less → (pos_cmp (position_of s) y ≡ Less → ⊥) → finding_in s (take_out m x es) ≡ finding_in s es
 taken_out-from m x y s [] a h l off = absurd h
 taken_out-from m x y s (e ∷ es) a h l off =
-    elim (pos_cmp x e.position) as (λ r. pos_cmp x e.position ≡ r → seen s (cond (is_eq r) (with_first_gap m es) (e ∷ take_out m x es)) ≡ seen s (e ∷ es)) [
-      | Less ↦ λ k. ap (λ xs. seen s (e ∷ xs)) (untouched_ahead m x es (ascend-tail e es a) (ahead_still x e es k a))
+    elim (pos_cmp x e.position) as (λ r. pos_cmp x e.position ≡ r → finding_in s (cond (is_eq r) (with_first_gap m es) (e ∷ take_out m x es)) ≡ finding_in s (e ∷ es)) [
+      | Less ↦ λ k. ap (λ xs. finding_in s (e ∷ xs)) (untouched_ahead m x es (ascend-tail e es a) (ahead_still x e es k a))
       | Equal ↦ λ k. ⊎_elim
           (λ d. let u : Equal ≡ Less = sym (subst (λ z. pos_cmp x z ≡ Equal) d k) ∙ l in absurd (cc))
           (λ g. first_gone m y s e es a g off)
@@ -228,11 +228,11 @@ ahead_of_place p s e off k Less g = absurd (off (pos_cmp_total.trans (position_o
 ahead_of_place p s e off k Equal g = absurd (off (subst (λ y. pos_cmp (position_of s) y ≡ Less) (pos_cmp_same e.position p g) (spot-Less s e.position k)))
 ahead_of_place p s e off k Greater g = g
 
-silent_entries : (p : Pos) (s : Spot) → (pos_cmp (position_of s) p ≡ Less → ⊥) → (es : List Entry) → EachEntry (FitsPlace p) es → state_of (seen s es) ≡ silent
+silent_entries : (p : Pos) (s : Spot) → (pos_cmp (position_of s) p ≡ Less → ⊥) → (es : List Entry) → EachEntry (FitsPlace p) es → state_of (finding_in s es) ≡ silent
 silent_entries p s off [] h = refl
-silent_entries p s off (e ∷ es) h = elim (spot_cmp s e.position) as (λ r. spot_cmp s e.position ≡ r → state_of (entry_answers r e (seen s es)) ≡ silent) [
-  | Less ↦ λ k. ap (λ m. state_of (found m None)) (fits_behind (pos_cmp e.position p) e (ahead_of_place p s e off k (pos_cmp e.position p) refl) h.0).0
-  | Equal ↦ λ k. let at = fits_at (pos_cmp e.position p) e (λ l. off (subst (λ y. pos_cmp y p ≡ Less) (sym (spot-Equal s e.position k)) l)) h.0 in λ i. state_of (found (at.0 i) (at.1 i))
+silent_entries p s off (e ∷ es) h = elim (spot_cmp s e.position) as (λ r. spot_cmp s e.position ≡ r → state_of (entry_answers r e (finding_in s es)) ≡ silent) [
+  | Less ↦ λ k. ap (λ m. state_of (finding_of m None)) (fits_behind (pos_cmp e.position p) e (ahead_of_place p s e off k (pos_cmp e.position p) refl) h.0).0
+  | Equal ↦ λ k. let at = fits_at (pos_cmp e.position p) e (λ l. off (subst (λ y. pos_cmp y p ≡ Less) (sym (spot-Equal s e.position k)) l)) h.0 in λ i. state_of (finding_of (at.0 i) (at.1 i))
   | Greater ↦ λ k. silent_entries p s off es h.1
 ] refl
 
@@ -244,7 +244,7 @@ placed-by-entries p v h f = record {
 
 -- ---- its entries, from the version at its place
 
-said_nothing : (m : Mark) (row : Option Row) → state_of (found m row) ≡ silent → (m ≡ no_mark) × (row ≡ None)
+said_nothing : (m : Mark) (row : Option Row) → state_of (finding_of m row) ≡ silent → (m ≡ no_mark) × (row ≡ None)
 said_nothing m row e = (
   ap (λ f. mark f m.tomb) (ap (λ (c : SpotState). c.flag) e) ∙ ap (mark Inherit) (none_of m.tomb (ap (λ (c : SpotState). c.tombs) e)),
   none_of row (ap (λ (c : SpotState). c.rows) e),
@@ -252,7 +252,7 @@ said_nothing m row e = (
 
 -- entries say nothing at a spot that is not before the place
 abbrev IsSilentBehind : Pos → List Entry → Type 0
-IsSilentBehind p es = (s : Spot) → (pos_cmp (position_of s) p ≡ Less → ⊥) → state_of (seen s es) ≡ silent
+IsSilentBehind p es = (s : Spot) → (pos_cmp (position_of s) p ≡ Less → ⊥) → state_of (finding_in s es) ≡ silent
 
 -- the entries behind the one at the place: none, or the end dummy
 last_fits : (p : Pos) (e : Entry) (es : List Entry) → e.position ≡ p → Ascend (e ∷ es) → IsSilentBehind p (e ∷ es) → EachEntry (EndsBehind (Clustered p)) es → EachEntry (FitsPlace p) es
@@ -260,12 +260,12 @@ last_fits p e [] d a h l = tt
 last_fits p e (f ∷ []) d a h l =
     let behind : pos_cmp p f.position ≡ Less = subst (λ y. pos_cmp y f.position ≡ Less) d a.0 in
     let turned : pos_cmp f.position p ≡ Greater = turn_to p f.position Less behind in
-    let itself : state_of (seen (On f.position) (e ∷ f ∷ [])) ≡ state_of (found f.at f.row) =
-    ap (λ r. state_of (entry_answers r e (seen (On f.position) (f ∷ [])))) (turn_to e.position f.position Less a.0)
-    ∙ ap (λ r. state_of (entry_answers r f (seen (On f.position) []))) (tied_itself pos_cmp_total f.position) in
-    let gap : state_of (seen (Behind p) (e ∷ f ∷ [])) ≡ state_of (found f.gap None) =
-    ap (λ r. state_of (entry_answers (behind_of r) e (seen (Behind p) (f ∷ [])))) (subst (λ y. pos_cmp p y ≡ Equal) (sym d) (tied_itself pos_cmp_total p))
-    ∙ ap (λ r. state_of (entry_answers (behind_of r) f (seen (Behind p) []))) behind in
+    let itself : state_of (finding_in (On f.position) (e ∷ f ∷ [])) ≡ state_of (finding_of f.at f.row) =
+    ap (λ r. state_of (entry_answers r e (finding_in (On f.position) (f ∷ [])))) (turn_to e.position f.position Less a.0)
+    ∙ ap (λ r. state_of (entry_answers r f (finding_in (On f.position) []))) (tied_itself pos_cmp_total f.position) in
+    let gap : state_of (finding_in (Behind p) (e ∷ f ∷ [])) ≡ state_of (finding_of f.gap None) =
+    ap (λ r. state_of (entry_answers (behind_of r) e (finding_in (Behind p) (f ∷ [])))) (subst (λ y. pos_cmp p y ≡ Equal) (sym d) (tied_itself pos_cmp_total p))
+    ∙ ap (λ r. state_of (entry_answers (behind_of r) f (finding_in (Behind p) []))) behind in
     let at = said_nothing f.at f.row (sym itself ∙ h (On f.position) (λ n. let u : Greater ≡ Less = sym turned ∙ n in cc)) in
     let before = said_nothing f.gap None (sym gap ∙ h (Behind p) (λ n. let u : Equal ≡ Less = sym (tied_itself pos_cmp_total p) ∙ n in cc)) in
     (subst (λ r. FitsBy r f) (sym turned) ((at.0, at.1), before.0, l.0 behind), tt)
@@ -279,17 +279,17 @@ each_fits p [] a has h l = tt
 each_fits p (e ∷ es) a has h l = ⊎_elim
     (λ d.
     let same : pos_cmp e.position p ≡ Equal = subst (λ y. pos_cmp e.position y ≡ Equal) d (tied_itself pos_cmp_total e.position) in
-    let itself : state_of (seen (On p) (e ∷ es)) ≡ state_of (found e.at e.row) = ap (λ r. state_of (entry_answers r e (seen (On p) es))) (subst (λ y. pos_cmp p y ≡ Equal) (sym d) (tied_itself pos_cmp_total p)) in
+    let itself : state_of (finding_in (On p) (e ∷ es)) ≡ state_of (finding_of e.at e.row) = ap (λ r. state_of (entry_answers r e (finding_in (On p) es))) (subst (λ y. pos_cmp p y ≡ Equal) (sym d) (tied_itself pos_cmp_total p)) in
     (subst (λ r. FitsBy r e) (sym same) (said_nothing e.at e.row (sym itself ∙ h (On p) (λ n. let u : Equal ≡ Less = sym (tied_itself pos_cmp_total p) ∙ n in cc))), last_fits p e es d a h l.1))
     (λ k.
     let below : pos_cmp e.position p ≡ Less = ahead_of p e es a k in
     (subst (λ r. FitsBy r e) (sym below) tt, each_fits p es (ascend-tail e es a) k (λ s n. passed s n (spot_cmp s e.position) refl below ∙ h s n) l.1))
     has
   where
-    passed : (s : Spot) → (pos_cmp (position_of s) p ≡ Less → ⊥) → (r : Ordering) → spot_cmp s e.position ≡ r → pos_cmp e.position p ≡ Less → state_of (seen s es) ≡ state_of (seen s (e ∷ es))
+    passed : (s : Spot) → (pos_cmp (position_of s) p ≡ Less → ⊥) → (r : Ordering) → spot_cmp s e.position ≡ r → pos_cmp e.position p ≡ Less → state_of (finding_in s es) ≡ state_of (finding_in s (e ∷ es))
     passed s n Less k below = absurd (n (pos_cmp_total.trans (position_of s) e.position p (spot-Less s e.position k) below))
     passed s n Equal k below = absurd (n (subst (λ y. pos_cmp y p ≡ Less) (sym (spot-Equal s e.position k)) below))
-    passed s n Greater k below = ap (λ r. state_of (entry_answers r e (seen s es))) (sym k)
+    passed s n Greater k below = ap (λ r. state_of (entry_answers r e (finding_in s es))) (sym k)
 
 pub entries-of-placed : (p : Pos) (v : Version) → Ascend v.entries → IsAtPlace (Clustered p) v → HasEntryAt p v.entries × EachEntry (FitsPlace p) v.entries
 entries-of-placed p v a h = (h.place.stands, each_fits p v.entries a h.place.stands h.silent.clustered h.place.last)

@@ -12,9 +12,9 @@ use Rattle.rc_position.specs.laws.Orders.{pos_cmp_total, pos_cmp_same}
 use Rattle.rc_position.specs.laws.Bounds.{last_pos-greatest}
 use Rattle.rc_core.specs.declared.entries.Entry.{Entry}
 use Rattle.rc_core.specs.declared.entries.Mark.{Mark}
-use Rattle.rc_core.specs.Version.{Spot, On, Behind, gap_ordering, spot_cmp, Finding, found, entry_answers, seen, IsBeforeEnd, IsReachedBy, EndsWithDummy, Ascend, end_position}
+use Rattle.rc_core.specs.Version.{Spot, On, Behind, gap_ordering, spot_cmp, Finding, finding_of, entry_answers, finding_in, IsBeforeEnd, IsReachedBy, EndsWithDummy, Ascend, end_position}
 use Rattle.rc_cell.specs.declared.writes.Tomb.{Tomb}
-use Rattle.rc_core.specs.Change.{join_row_at, joined_onto, known_with, fill_row, dummy, split, split_by, changed, change, position_of, at_entry, drop_at, take_out, with_gap, with_first_gap, lose_last_gap, lost_mark}
+use Rattle.rc_core.specs.Change.{join_row_at, joined_onto, known_with, fill_row, dummy, gap_split, split_by, entry_changed, change, position_of, at_entry, drop_at, take_out, with_gap, with_first_gap, lose_last_gap, lost_mark}
 
 -- ---- orders
 
@@ -83,26 +83,26 @@ upto_or s q r Greater h e l = absurd (cc)
 
 -- ---- split
 
-pub split-seen : (s : Spot) (x : Pos) (es : List Entry) → seen s (split x es) ≡ seen s es
+pub split-seen : (s : Spot) (x : Pos) (es : List Entry) → finding_in s (gap_split x es) ≡ finding_in s es
 split-seen s x [] = refl
 split-seen s x (e ∷ es) =
-    elim (pos_cmp x e.position) as (λ r. pos_cmp x e.position ≡ r → seen s (split_by r x e es (split x es)) ≡ seen s (e ∷ es)) [
-      | Less ↦ λ l. elim (spot_cmp s x) as (λ r. spot_cmp s x ≡ r → entry_answers r (dummy x e.gap) (seen s (e ∷ es)) ≡ seen s (e ∷ es)) [
-        | Less ↦ λ h. sym (ap (λ r. entry_answers r e (seen s es)) (spot-before s x e.position h l))
-        | Equal ↦ λ h. sym (ap (λ r. entry_answers r e (seen s es)) (spot-at s x e.position h l))
+    elim (pos_cmp x e.position) as (λ r. pos_cmp x e.position ≡ r → finding_in s (split_by r x e es (gap_split x es)) ≡ finding_in s (e ∷ es)) [
+      | Less ↦ λ l. elim (spot_cmp s x) as (λ r. spot_cmp s x ≡ r → entry_answers r (dummy x e.gap) (finding_in s (e ∷ es)) ≡ finding_in s (e ∷ es)) [
+        | Less ↦ λ h. sym (ap (λ r. entry_answers r e (finding_in s es)) (spot-before s x e.position h l))
+        | Equal ↦ λ h. sym (ap (λ r. entry_answers r e (finding_in s es)) (spot-at s x e.position h l))
         | Greater ↦ λ h. refl
       ] refl
       | Equal ↦ λ _. refl
       | Greater ↦ λ _. ap (entry_answers (spot_cmp s e.position) e) (split-seen s x es)
     ] refl
 
-pub split-reaches : (s : Spot) (x : Pos) (es : List Entry) → IsBeforeEnd s es → IsBeforeEnd s (split x es)
+pub split-reaches : (s : Spot) (x : Pos) (es : List Entry) → IsBeforeEnd s es → IsBeforeEnd s (gap_split x es)
 split-reaches s x [] b = b
 split-reaches s x (e ∷ es) b =
-    elim (pos_cmp x e.position) as (λ r. IsBeforeEnd s (split_by r x e es (split x es))) [
+    elim (pos_cmp x e.position) as (λ r. IsBeforeEnd s (split_by r x e es (gap_split x es))) [
       | Less ↦ elim (spot_cmp s x) as (λ r. IsReachedBy r (IsBeforeEnd s (e ∷ es))) [ Less ↦ tt | Equal ↦ tt | Greater ↦ b ]
       | Equal ↦ b
-      | Greater ↦ elim (spot_cmp s e.position) as (λ r. IsReachedBy r (IsBeforeEnd s es) → IsReachedBy r (IsBeforeEnd s (split x es))) [ Less ↦ λ _. tt | Equal ↦ λ _. tt | Greater ↦ λ h. split-reaches s x es h ] b
+      | Greater ↦ elim (spot_cmp s e.position) as (λ r. IsReachedBy r (IsBeforeEnd s es) → IsReachedBy r (IsBeforeEnd s (gap_split x es))) [ Less ↦ λ _. tt | Equal ↦ λ _. tt | Greater ↦ λ h. split-reaches s x es h ] b
     ]
 
 -- ---- change
@@ -126,10 +126,10 @@ met-behind s q (e ∷ es) g = elim (spot_cmp s e.position) as (λ r. MetBy r s q
   | Greater ↦ met-behind s q es g
 ]
 
-met-split : (s : Spot) (x : Pos) (es : List Entry) → Met s x (split x es)
+met-split : (s : Spot) (x : Pos) (es : List Entry) → Met s x (gap_split x es)
 met-split s x [] = tt
 met-split s x (e ∷ es) =
-    elim (pos_cmp x e.position) as (λ r. pos_cmp x e.position ≡ r → Met s x (split_by r x e es (split x es))) [
+    elim (pos_cmp x e.position) as (λ r. pos_cmp x e.position ≡ r → Met s x (split_by r x e es (gap_split x es))) [
       | Less ↦ λ l. elim (spot_cmp s x) as (λ r. spot_cmp s x ≡ r → MetBy r s x (dummy x e.gap) (Met s x (e ∷ es))) [
         | Less ↦ λ h k. ap is_gt (tied_itself pos_cmp_total x)
         | Equal ↦ λ h. tt
@@ -140,24 +140,24 @@ met-split s x (e ∷ es) =
         | Equal ↦ λ h. tt
         | Greater ↦ λ h. met-behind s x es (subst (λ y. spot_cmp s y ≡ Greater) (sym (pos_cmp_same x e.position l)) h)
       ] refl
-      | Greater ↦ λ l. elim (spot_cmp s e.position) as (λ r. MetBy r s x e (Met s x (split x es))) [
+      | Greater ↦ λ l. elim (spot_cmp s e.position) as (λ r. MetBy r s x e (Met s x (gap_split x es))) [
         | Less ↦ λ k. ap is_gt (turn_to x e.position Greater l)
         | Equal ↦ tt
         | Greater ↦ met-split s x es
       ]
     ] refl
 
-met-kept : (s : Spot) (q x : Pos) (es : List Entry) → Met s q es → Met s q (split x es)
+met-kept : (s : Spot) (q x : Pos) (es : List Entry) → Met s q es → Met s q (gap_split x es)
 met-kept s q x [] m = tt
 met-kept s q x (e ∷ es) m =
-    elim (pos_cmp x e.position) as (λ r. pos_cmp x e.position ≡ r → Met s q (split_by r x e es (split x es))) [
+    elim (pos_cmp x e.position) as (λ r. pos_cmp x e.position ≡ r → Met s q (split_by r x e es (gap_split x es))) [
       | Less ↦ λ l. elim (spot_cmp s x) as (λ r. spot_cmp s x ≡ r → MetBy r s q (dummy x e.gap) (Met s q (e ∷ es))) [
         | Less ↦ λ h k. upto pos_cmp_total x e.position q (ap is_gt l) (subst (λ r. MetBy r s q e (Met s q es)) (spot-before s x e.position h l) m k)
         | Equal ↦ λ h. tt
         | Greater ↦ λ h. m
       ] refl
       | Equal ↦ λ l. m
-      | Greater ↦ λ l. elim (spot_cmp s e.position) as (λ r. MetBy r s q e (Met s q es) → MetBy r s q e (Met s q (split x es))) [
+      | Greater ↦ λ l. elim (spot_cmp s e.position) as (λ r. MetBy r s q e (Met s q es) → MetBy r s q e (Met s q (gap_split x es))) [
         | Less ↦ λ h. h
         | Equal ↦ λ h. tt
         | Greater ↦ λ h. met-kept s q x es h
@@ -189,28 +189,28 @@ between s from to e l m n =
 
 -- what is said with a function on the flag and tombstone
 abbrev pub with_f : (Mark → Mark) → Finding → Finding
-with_f f a = found (f a.mark) a.row
+with_f f a = finding_of (f a.mark) a.row
 
-choose : (b : Bool) (m n : Mark) (r : Option Row) → found (cond b m n) r ≡ cond b (found m r) (found n r)
+choose : (b : Bool) (m n : Mark) (r : Option Row) → finding_of (cond b m n) r ≡ cond b (finding_of m r) (finding_of n r)
 choose true m n r = refl
 choose false m n r = refl
 
 changed-seen : (f : Mark → Mark) (s : Spot) (from to : Pos) (es : List Entry) → IsBeforeEnd s es → Met s from es → Met s to es →
-    seen s (list_map (changed f from to) es) ≡ cond (covers from to (position_of s)) (with_f f (seen s es)) (seen s es)
+    finding_in s (list_map (entry_changed f from to) es) ≡ cond (covers from to (position_of s)) (with_f f (finding_in s es)) (finding_in s es)
 changed-seen f s from to [] b m n = absurd b
 changed-seen f s from to (e ∷ es) b m n =
     elim (spot_cmp s e.position) as (λ r. spot_cmp s e.position ≡ r → IsReachedBy r (IsBeforeEnd s es) → MetBy r s from e (Met s from es) → MetBy r s to e (Met s to es) →
-    entry_answers r (changed f from to e) (seen s (list_map (changed f from to) es)) ≡ cond (covers from to (position_of s)) (with_f f (entry_answers r e (seen s es))) (entry_answers r e (seen s es))) [
-      | Less ↦ λ l _ k j. choose (is_lt (pos_cmp from e.position) && is_le (pos_cmp e.position to)) (f e.gap) e.gap None ∙ ap (λ c. cond c (found (f e.gap) None) (found e.gap None)) (between s from to e l k j)
-      | Equal ↦ λ l _ k j. choose (covers from to e.position) (f e.at) e.at e.row ∙ ap (λ x. cond (covers from to x) (found (f e.at) e.row) (found e.at e.row)) (sym (spot-Equal s e.position l))
+    entry_answers r (entry_changed f from to e) (finding_in s (list_map (entry_changed f from to) es)) ≡ cond (covers from to (position_of s)) (with_f f (entry_answers r e (finding_in s es))) (entry_answers r e (finding_in s es))) [
+      | Less ↦ λ l _ k j. choose (is_lt (pos_cmp from e.position) && is_le (pos_cmp e.position to)) (f e.gap) e.gap None ∙ ap (λ c. cond c (finding_of (f e.gap) None) (finding_of e.gap None)) (between s from to e l k j)
+      | Equal ↦ λ l _ k j. choose (covers from to e.position) (f e.at) e.at e.row ∙ ap (λ x. cond (covers from to x) (finding_of (f e.at) e.row) (finding_of e.at e.row)) (sym (spot-Equal s e.position l))
       | Greater ↦ λ l h k j. changed-seen f s from to es h k j
     ] refl b m n
 
 pub change-seen : (f : Mark → Mark) (s : Spot) (from to : Pos) (es : List Entry) → IsBeforeEnd s es →
-    seen s (change f from to es) ≡ cond (covers from to (position_of s)) (with_f f (seen s es)) (seen s es)
+    finding_in s (change f from to es) ≡ cond (covers from to (position_of s)) (with_f f (finding_in s es)) (finding_in s es)
 change-seen f s from to es b =
-    changed-seen f s from to (split to (split from es)) (split-reaches s to (split from es) (split-reaches s from es b)) (met-kept s from to (split from es) (met-split s from es)) (met-split s to (split from es))
-    ∙ ap (λ a. cond (covers from to (position_of s)) (with_f f a) a) (split-seen s to (split from es) ∙ split-seen s from es)
+    changed-seen f s from to (gap_split to (gap_split from es)) (split-reaches s to (gap_split from es) (split-reaches s from es b)) (met-kept s from to (gap_split from es) (met-split s from es)) (met-split s to (gap_split from es))
+    ∙ ap (λ a. cond (covers from to (position_of s)) (with_f f a) a) (split-seen s to (gap_split from es) ∙ split-seen s from es)
 
 -- ---- one position
 
@@ -225,25 +225,25 @@ abbrev pub StandsAt : Pos → List Entry → Type 0
 StandsAt x [] = ⊥
 StandsAt x (e ∷ es) = StandsBy (pos_cmp x e.position) (StandsAt x es)
 
-pub split-stands : (x : Pos) (es : List Entry) → IsBeforeEnd (On x) es → StandsAt x (split x es)
+pub split-stands : (x : Pos) (es : List Entry) → IsBeforeEnd (On x) es → StandsAt x (gap_split x es)
 split-stands x [] b = b
 split-stands x (e ∷ es) b =
-    elim (pos_cmp x e.position) as (λ r. pos_cmp x e.position ≡ r → IsReachedBy r (IsBeforeEnd (On x) es) → StandsAt x (split_by r x e es (split x es))) [
+    elim (pos_cmp x e.position) as (λ r. pos_cmp x e.position ≡ r → IsReachedBy r (IsBeforeEnd (On x) es) → StandsAt x (split_by r x e es (gap_split x es))) [
       | Less ↦ λ h _. subst (λ r. StandsBy r (StandsAt x (e ∷ es))) (sym (tied_itself pos_cmp_total x)) tt
       | Equal ↦ λ h _. subst (λ r. StandsBy r (StandsAt x es)) (sym h) tt
-      | Greater ↦ λ h k. subst (λ r. StandsBy r (StandsAt x (split x es))) (sym h) (split-stands x es k)
+      | Greater ↦ λ h k. subst (λ r. StandsBy r (StandsAt x (gap_split x es))) (sym h) (split-stands x es k)
     ] refl b
 
 module _ (ro : Option Row → Option Row) (ma : Mark → Mark) where
   abbrev put : Entry → Entry
   put e = record { position = e.position; row = ro e.row; at = ma e.at; gap = e.gap }
 
-  pub at_entry-other : (s : Spot) (x : Pos) (es : List Entry) → (spot_cmp s x ≡ Equal → ⊥) → seen s (at_entry x put es) ≡ seen s es
+  pub at_entry-other : (s : Spot) (x : Pos) (es : List Entry) → (spot_cmp s x ≡ Equal → ⊥) → finding_in s (at_entry x put es) ≡ finding_in s es
   at_entry-other s x [] off = refl
   at_entry-other s x (e ∷ es) off =
-      elim (pos_cmp x e.position) as (λ r. pos_cmp x e.position ≡ r → seen s (cond (is_eq r) (put e) e ∷ at_entry x put es) ≡ seen s (e ∷ es)) [
+      elim (pos_cmp x e.position) as (λ r. pos_cmp x e.position ≡ r → finding_in s (cond (is_eq r) (put e) e ∷ at_entry x put es) ≡ finding_in s (e ∷ es)) [
         | Less ↦ λ _. ap (entry_answers (spot_cmp s e.position) e) (at_entry-other s x es off)
-        | Equal ↦ λ h. elim (spot_cmp s e.position) as (λ r. spot_cmp s e.position ≡ r → entry_answers r (put e) (seen s (at_entry x put es)) ≡ entry_answers r e (seen s es)) [
+        | Equal ↦ λ h. elim (spot_cmp s e.position) as (λ r. spot_cmp s e.position ≡ r → entry_answers r (put e) (finding_in s (at_entry x put es)) ≡ entry_answers r e (finding_in s es)) [
           | Less ↦ λ _. refl
           | Equal ↦ λ k. absurd (off (subst (λ y. spot_cmp s y ≡ Equal) (sym (pos_cmp_same x e.position h)) k))
           | Greater ↦ λ _. at_entry-other s x es off
@@ -251,13 +251,13 @@ module _ (ro : Option Row → Option Row) (ma : Mark → Mark) where
         | Greater ↦ λ _. ap (entry_answers (spot_cmp s e.position) e) (at_entry-other s x es off)
       ] refl
 
-  pub at_entry-there : (x : Pos) (es : List Entry) → StandsAt x es → seen (On x) (at_entry x put es) ≡ found (ma (seen (On x) es).mark) (ro (seen (On x) es).row)
+  pub at_entry-there : (x : Pos) (es : List Entry) → StandsAt x es → finding_in (On x) (at_entry x put es) ≡ finding_of (ma (finding_in (On x) es).mark) (ro (finding_in (On x) es).row)
   at_entry-there x [] st = absurd st
   at_entry-there x (e ∷ es) st =
-      elim (pos_cmp x e.position) as (λ r. pos_cmp x e.position ≡ r → StandsBy r (StandsAt x es) → seen (On x) (cond (is_eq r) (put e) e ∷ at_entry x put es) ≡ found (ma (entry_answers r e (seen (On x) es)).mark) (ro (entry_answers r e (seen (On x) es)).row)) [
+      elim (pos_cmp x e.position) as (λ r. pos_cmp x e.position ≡ r → StandsBy r (StandsAt x es) → finding_in (On x) (cond (is_eq r) (put e) e ∷ at_entry x put es) ≡ finding_of (ma (entry_answers r e (finding_in (On x) es)).mark) (ro (entry_answers r e (finding_in (On x) es)).row)) [
         | Less ↦ λ _ off. absurd off
-        | Equal ↦ λ h _. ap (λ r. entry_answers r (put e) (seen (On x) (at_entry x put es))) h
-        | Greater ↦ λ h k. ap (λ r. entry_answers r e (seen (On x) (at_entry x put es))) h ∙ at_entry-there x es k
+        | Equal ↦ λ h _. ap (λ r. entry_answers r (put e) (finding_in (On x) (at_entry x put es))) h
+        | Greater ↦ λ h k. ap (λ r. entry_answers r e (finding_in (On x) (at_entry x put es))) h ∙ at_entry-there x es k
       ] refl st
 
   pub at_entry-stands : (x : Pos) (es : List Entry) → StandsAt x es → StandsAt x (at_entry x put es)
@@ -273,54 +273,54 @@ module _ (ro : Option Row → Option Row) (ma : Mark → Mark) where
 
 -- what is said where an entry was taken out
 abbrev pub left : Mark → Finding
-left m = found m None
+left m = finding_of m None
 
-marked_first : (m : Mark) (s : Spot) (e : Entry) (es : List Entry) → (seen s (with_gap m e ∷ es) ≡ seen s (e ∷ es)) ⊎ (seen s (with_gap m e ∷ es) ≡ left m)
-marked_first m s e es = elim (spot_cmp s e.position) as (λ r. (entry_answers r (with_gap m e) (seen s es) ≡ entry_answers r e (seen s es)) ⊎ (entry_answers r (with_gap m e) (seen s es) ≡ left m)) [
+marked_first : (m : Mark) (s : Spot) (e : Entry) (es : List Entry) → (finding_in s (with_gap m e ∷ es) ≡ finding_in s (e ∷ es)) ⊎ (finding_in s (with_gap m e ∷ es) ≡ left m)
+marked_first m s e es = elim (spot_cmp s e.position) as (λ r. (entry_answers r (with_gap m e) (finding_in s es) ≡ entry_answers r e (finding_in s es)) ⊎ (entry_answers r (with_gap m e) (finding_in s es) ≡ left m)) [
   | Less ↦ inr refl
   | Equal ↦ inl refl
   | Greater ↦ inl refl
 ]
 
-behind_the_first : (m : Mark) (s : Spot) (f : Entry) (es : List Entry) → spot_cmp s f.position ≡ Less → seen s (with_first_gap m (f ∷ es)) ≡ left m
-behind_the_first m s f es l = ap (λ r. entry_answers r (with_gap m f) (seen s es)) l
+behind_the_first : (m : Mark) (s : Spot) (f : Entry) (es : List Entry) → spot_cmp s f.position ≡ Less → finding_in s (with_first_gap m (f ∷ es)) ≡ left m
+behind_the_first m s f es l = ap (λ r. entry_answers r (with_gap m f) (finding_in s es)) l
 
-pub take_out-seen : (m : Mark) (s : Spot) (x : Pos) (es : List Entry) → Ascend es → EndsWithDummy es → IsBefore x end_position → (seen s (take_out m x es) ≡ seen s es) ⊎ (seen s (take_out m x es) ≡ left m)
+pub take_out-seen : (m : Mark) (s : Spot) (x : Pos) (es : List Entry) → Ascend es → EndsWithDummy es → IsBefore x end_position → (finding_in s (take_out m x es) ≡ finding_in s es) ⊎ (finding_in s (take_out m x es) ≡ left m)
 take_out-seen m s x [] a d b = inl refl
 take_out-seen m s x (e ∷ []) a d b =
-    elim (pos_cmp x e.position) as (λ r. pos_cmp x e.position ≡ r → (seen s (cond (is_eq r) [] (e ∷ [])) ≡ seen s (e ∷ [])) ⊎ (seen s (cond (is_eq r) [] (e ∷ [])) ≡ left m)) [
+    elim (pos_cmp x e.position) as (λ r. pos_cmp x e.position ≡ r → (finding_in s (cond (is_eq r) [] (e ∷ [])) ≡ finding_in s (e ∷ [])) ⊎ (finding_in s (cond (is_eq r) [] (e ∷ [])) ≡ left m)) [
       | Less ↦ λ _. inl refl
       | Equal ↦ λ h. let u : Equal ≡ Less = sym h ∙ ap (pos_cmp x) d.0 ∙ b in absurd (cc)
       | Greater ↦ λ _. inl refl
     ] refl
 take_out-seen m s x (e ∷ f ∷ es) a d b =
-    elim (pos_cmp x e.position) as (λ r. (seen s (cond (is_eq r) (with_gap m f ∷ es) (e ∷ take_out m x (f ∷ es))) ≡ seen s (e ∷ f ∷ es)) ⊎ (seen s (cond (is_eq r) (with_gap m f ∷ es) (e ∷ take_out m x (f ∷ es))) ≡ left m)) [
+    elim (pos_cmp x e.position) as (λ r. (finding_in s (cond (is_eq r) (with_gap m f ∷ es) (e ∷ take_out m x (f ∷ es))) ≡ finding_in s (e ∷ f ∷ es)) ⊎ (finding_in s (cond (is_eq r) (with_gap m f ∷ es) (e ∷ take_out m x (f ∷ es))) ≡ left m)) [
       | Less ↦ later (take_out-seen m s x (f ∷ es) a.1 d b)
       | Equal ↦ here
       | Greater ↦ later (take_out-seen m s x (f ∷ es) a.1 d b)
     ]
   where
-    later : (seen s (take_out m x (f ∷ es)) ≡ seen s (f ∷ es)) ⊎ (seen s (take_out m x (f ∷ es)) ≡ left m) → (seen s (e ∷ take_out m x (f ∷ es)) ≡ seen s (e ∷ f ∷ es)) ⊎ (seen s (e ∷ take_out m x (f ∷ es)) ≡ left m)
-    later ih = elim (spot_cmp s e.position) as (λ r. (entry_answers r e (seen s (take_out m x (f ∷ es))) ≡ entry_answers r e (seen s (f ∷ es))) ⊎ (entry_answers r e (seen s (take_out m x (f ∷ es))) ≡ left m)) [
+    later : (finding_in s (take_out m x (f ∷ es)) ≡ finding_in s (f ∷ es)) ⊎ (finding_in s (take_out m x (f ∷ es)) ≡ left m) → (finding_in s (e ∷ take_out m x (f ∷ es)) ≡ finding_in s (e ∷ f ∷ es)) ⊎ (finding_in s (e ∷ take_out m x (f ∷ es)) ≡ left m)
+    later ih = elim (spot_cmp s e.position) as (λ r. (entry_answers r e (finding_in s (take_out m x (f ∷ es))) ≡ entry_answers r e (finding_in s (f ∷ es))) ⊎ (entry_answers r e (finding_in s (take_out m x (f ∷ es))) ≡ left m)) [
       | Less ↦ inl refl
       | Equal ↦ inl refl
       | Greater ↦ ih
     ]
 
-    here : (seen s (with_gap m f ∷ es) ≡ seen s (e ∷ f ∷ es)) ⊎ (seen s (with_gap m f ∷ es) ≡ left m)
-    here = elim (spot_cmp s e.position) as (λ r. spot_cmp s e.position ≡ r → (seen s (with_gap m f ∷ es) ≡ entry_answers r e (seen s (f ∷ es))) ⊎ (seen s (with_gap m f ∷ es) ≡ left m)) [
+    here : (finding_in s (with_gap m f ∷ es) ≡ finding_in s (e ∷ f ∷ es)) ⊎ (finding_in s (with_gap m f ∷ es) ≡ left m)
+    here = elim (spot_cmp s e.position) as (λ r. spot_cmp s e.position ≡ r → (finding_in s (with_gap m f ∷ es) ≡ entry_answers r e (finding_in s (f ∷ es))) ⊎ (finding_in s (with_gap m f ∷ es) ≡ left m)) [
       | Less ↦ λ h. inr (behind_the_first m s f es (spot-before s e.position f.position h a.0))
       | Equal ↦ λ h. inr (behind_the_first m s f es (spot-at s e.position f.position h a.0))
       | Greater ↦ λ h. marked_first m s f es
     ] refl
 
-pub drop-seen : (s : Spot) (x : Pos) (es : List Entry) → Ascend es → EndsWithDummy es → IsBefore x end_position → (seen s (drop_at x es) ≡ seen s es) ⊎ (seen s (drop_at x es) ≡ found lost_mark None)
+pub drop-seen : (s : Spot) (x : Pos) (es : List Entry) → Ascend es → EndsWithDummy es → IsBefore x end_position → (finding_in s (drop_at x es) ≡ finding_in s es) ⊎ (finding_in s (drop_at x es) ≡ finding_of lost_mark None)
 drop-seen = take_out-seen lost_mark
 
-pub lose_last-seen : (s : Spot) (es : List Entry) → (seen s (lose_last_gap es) ≡ seen s es) ⊎ (seen s (lose_last_gap es) ≡ left lost_mark)
+pub lose_last-seen : (s : Spot) (es : List Entry) → (finding_in s (lose_last_gap es) ≡ finding_in s es) ⊎ (finding_in s (lose_last_gap es) ≡ left lost_mark)
 lose_last-seen s [] = inl refl
 lose_last-seen s (e ∷ []) = marked_first lost_mark s e []
-lose_last-seen s (e ∷ f ∷ es) = elim (spot_cmp s e.position) as (λ r. (entry_answers r e (seen s (lose_last_gap (f ∷ es))) ≡ entry_answers r e (seen s (f ∷ es))) ⊎ (entry_answers r e (seen s (lose_last_gap (f ∷ es))) ≡ left lost_mark)) [
+lose_last-seen s (e ∷ f ∷ es) = elim (spot_cmp s e.position) as (λ r. (entry_answers r e (finding_in s (lose_last_gap (f ∷ es))) ≡ entry_answers r e (finding_in s (f ∷ es))) ⊎ (entry_answers r e (finding_in s (lose_last_gap (f ∷ es))) ≡ left lost_mark)) [
   | Less ↦ inl refl
   | Equal ↦ inl refl
   | Greater ↦ lose_last-seen s (f ∷ es)
@@ -353,21 +353,21 @@ not_at (On y) x off e = off (ap On (pos_cmp_same y x e))
 not_at (Behind y) x off e = behind-Equal (pos_cmp y x) e
 
 pub join_row-there : (x : Pos) (row : Row) (es : List Entry) → EndsWithDummy es →
-    seen (On x) (join_row_at x row es) ≡ found (seen (On x) es).mark (Some (joined_onto (seen (On x) es).row row))
+    finding_in (On x) (join_row_at x row es) ≡ finding_of (finding_in (On x) es).mark (Some (joined_onto (finding_in (On x) es).row row))
 join_row-there x row es d =
-    at_entry-there (λ r. Some (joined_onto r row)) (λ m. m) x (split x es) (split-stands x es (position-reached x es d))
-    ∙ ap (λ (a : Finding). found a.mark (Some (joined_onto a.row row))) (split-seen (On x) x es)
+    at_entry-there (λ r. Some (joined_onto r row)) (λ m. m) x (gap_split x es) (split-stands x es (position-reached x es d))
+    ∙ ap (λ (a : Finding). finding_of a.mark (Some (joined_onto a.row row))) (split-seen (On x) x es)
 
-pub join_row-elsewhere : (s : Spot) (x : Pos) (row : Row) (es : List Entry) → (s ≡ On x → ⊥) → seen s (join_row_at x row es) ≡ seen s es
-join_row-elsewhere s x row es off = at_entry-other (λ r. Some (joined_onto r row)) (λ m. m) s x (split x es) (not_at s x off) ∙ split-seen s x es
+pub join_row-elsewhere : (s : Spot) (x : Pos) (row : Row) (es : List Entry) → (s ≡ On x → ⊥) → finding_in s (join_row_at x row es) ≡ finding_in s es
+join_row-elsewhere s x row es off = at_entry-other (λ r. Some (joined_onto r row)) (λ m. m) s x (gap_split x es) (not_at s x off) ∙ split-seen s x es
 
 pub fill_row-there : (x : Pos) (row : Row) (tomb : Option Tomb) (es : List Entry) → EndsWithDummy es →
-    seen (On x) (fill_row x row tomb es) ≡ found (known_with tomb (seen (On x) es).mark) (Some (joined_onto (seen (On x) es).row row))
+    finding_in (On x) (fill_row x row tomb es) ≡ finding_of (known_with tomb (finding_in (On x) es).mark) (Some (joined_onto (finding_in (On x) es).row row))
 fill_row-there x row tomb es d =
-    at_entry-there (λ r. r) (known_with tomb) x (join_row_at x row es) (at_entry-stands (λ r. Some (joined_onto r row)) (λ m. m) x (split x es) (split-stands x es (position-reached x es d)))
-    ∙ ap (λ (a : Finding). found (known_with tomb a.mark) a.row) (join_row-there x row es d)
+    at_entry-there (λ r. r) (known_with tomb) x (join_row_at x row es) (at_entry-stands (λ r. Some (joined_onto r row)) (λ m. m) x (gap_split x es) (split-stands x es (position-reached x es d)))
+    ∙ ap (λ (a : Finding). finding_of (known_with tomb a.mark) a.row) (join_row-there x row es d)
 
-pub fill_row-elsewhere : (s : Spot) (x : Pos) (row : Row) (tomb : Option Tomb) (es : List Entry) → (s ≡ On x → ⊥) → seen s (fill_row x row tomb es) ≡ seen s es
+pub fill_row-elsewhere : (s : Spot) (x : Pos) (row : Row) (tomb : Option Tomb) (es : List Entry) → (s ≡ On x → ⊥) → finding_in s (fill_row x row tomb es) ≡ finding_in s es
 fill_row-elsewhere s x row tomb es off = at_entry-other (λ r. r) (known_with tomb) s x (join_row_at x row es) (not_at s x off) ∙ join_row-elsewhere s x row es off
 
 -- ---- exactly what a dropped entry takes with it
@@ -390,47 +390,47 @@ taken_out m (b ∷ bs) e f es a =
     ap (λ r. cond (is_eq r) (with_first_gap m (bs ++ e ∷ f ∷ es)) (b ∷ take_out m e.position (bs ++ e ∷ f ∷ es))) (turn_to b.position e.position Less (ahead b bs e (f ∷ es) a))
     ∙ ap (λ xs. b ∷ xs) (taken_out m bs e f es (ascend-tail b (bs ++ e ∷ f ∷ es) a))
 
-seen-front : (s : Spot) (bs xs ys : List Entry) → IsBeforeEnd s bs → seen s (bs ++ xs) ≡ seen s (bs ++ ys)
+seen-front : (s : Spot) (bs xs ys : List Entry) → IsBeforeEnd s bs → finding_in s (bs ++ xs) ≡ finding_in s (bs ++ ys)
 seen-front s [] xs ys h = absurd h
-seen-front s (b ∷ bs) xs ys h = elim (spot_cmp s b.position) as (λ r. IsReachedBy r (IsBeforeEnd s bs) → entry_answers r b (seen s (bs ++ xs)) ≡ entry_answers r b (seen s (bs ++ ys))) [
+seen-front s (b ∷ bs) xs ys h = elim (spot_cmp s b.position) as (λ r. IsReachedBy r (IsBeforeEnd s bs) → entry_answers r b (finding_in s (bs ++ xs)) ≡ entry_answers r b (finding_in s (bs ++ ys))) [
   | Less ↦ λ _. refl
   | Equal ↦ λ _. refl
   | Greater ↦ λ k. seen-front s bs xs ys k
 ] h
 
-seen-back : (s : Spot) (bs xs : List Entry) → (IsBeforeEnd s bs → ⊥) → seen s (bs ++ xs) ≡ seen s xs
+seen-back : (s : Spot) (bs xs : List Entry) → (IsBeforeEnd s bs → ⊥) → finding_in s (bs ++ xs) ≡ finding_in s xs
 seen-back s [] xs h = refl
-seen-back s (b ∷ bs) xs h = elim (spot_cmp s b.position) as (λ r. (IsReachedBy r (IsBeforeEnd s bs) → ⊥) → entry_answers r b (seen s (bs ++ xs)) ≡ seen s xs) [
+seen-back s (b ∷ bs) xs h = elim (spot_cmp s b.position) as (λ r. (IsReachedBy r (IsBeforeEnd s bs) → ⊥) → entry_answers r b (finding_in s (bs ++ xs)) ≡ finding_in s xs) [
   | Less ↦ λ k. absurd (k tt)
   | Equal ↦ λ k. absurd (k tt)
   | Greater ↦ λ k. seen-back s bs xs k
 ] h
 
-seen-same : (s : Spot) (bs xs ys : List Entry) → seen s xs ≡ seen s ys → seen s (bs ++ xs) ≡ seen s (bs ++ ys)
+seen-same : (s : Spot) (bs xs ys : List Entry) → finding_in s xs ≡ finding_in s ys → finding_in s (bs ++ xs) ≡ finding_in s (bs ++ ys)
 seen-same s [] xs ys e = e
 seen-same s (b ∷ bs) xs ys e = ap (entry_answers (spot_cmp s b.position) b) (seen-same s bs xs ys e)
 
-pub take_out-front : (m : Mark) (s : Spot) (bs : List Entry) (e f : Entry) (es : List Entry) → Ascend (bs ++ e ∷ f ∷ es) → IsBeforeEnd s bs → seen s (take_out m e.position (bs ++ e ∷ f ∷ es)) ≡ seen s (bs ++ e ∷ f ∷ es)
-take_out-front m s bs e f es a h = ap (seen s) (taken_out m bs e f es a) ∙ seen-front s bs (with_gap m f ∷ es) (e ∷ f ∷ es) h
+pub take_out-front : (m : Mark) (s : Spot) (bs : List Entry) (e f : Entry) (es : List Entry) → Ascend (bs ++ e ∷ f ∷ es) → IsBeforeEnd s bs → finding_in s (take_out m e.position (bs ++ e ∷ f ∷ es)) ≡ finding_in s (bs ++ e ∷ f ∷ es)
+take_out-front m s bs e f es a h = ap (finding_in s) (taken_out m bs e f es a) ∙ seen-front s bs (with_gap m f ∷ es) (e ∷ f ∷ es) h
 
-pub take_out-between : (m : Mark) (s : Spot) (bs : List Entry) (e f : Entry) (es : List Entry) → Ascend (bs ++ e ∷ f ∷ es) → (IsBeforeEnd s bs → ⊥) → spot_cmp s f.position ≡ Less → seen s (take_out m e.position (bs ++ e ∷ f ∷ es)) ≡ found m None
-take_out-between m s bs e f es a h l = ap (seen s) (taken_out m bs e f es a) ∙ seen-back s bs (with_gap m f ∷ es) h ∙ ap (λ r. entry_answers r (with_gap m f) (seen s es)) l
+pub take_out-between : (m : Mark) (s : Spot) (bs : List Entry) (e f : Entry) (es : List Entry) → Ascend (bs ++ e ∷ f ∷ es) → (IsBeforeEnd s bs → ⊥) → spot_cmp s f.position ≡ Less → finding_in s (take_out m e.position (bs ++ e ∷ f ∷ es)) ≡ finding_of m None
+take_out-between m s bs e f es a h l = ap (finding_in s) (taken_out m bs e f es a) ∙ seen-back s bs (with_gap m f ∷ es) h ∙ ap (λ r. entry_answers r (with_gap m f) (finding_in s es)) l
 
-pub behind_both : (m : Mark) (s : Spot) (e f : Entry) (es : List Entry) → pos_cmp e.position f.position ≡ Less → (spot_cmp s f.position ≡ Less → ⊥) → seen s (with_gap m f ∷ es) ≡ seen s (e ∷ f ∷ es)
+pub behind_both : (m : Mark) (s : Spot) (e f : Entry) (es : List Entry) → pos_cmp e.position f.position ≡ Less → (spot_cmp s f.position ≡ Less → ⊥) → finding_in s (with_gap m f ∷ es) ≡ finding_in s (e ∷ f ∷ es)
 behind_both m s e f es a h =
-    elim (spot_cmp s f.position) as (λ r. (r ≡ Less → ⊥) → entry_answers r (with_gap m f) (seen s es) ≡ entry_answers r f (seen s es)) [ Less ↦ λ k. absurd (k refl) | Equal ↦ λ _. refl | Greater ↦ λ _. refl ] h
-    ∙ elim (spot_cmp s e.position) as (λ r. spot_cmp s e.position ≡ r → seen s (f ∷ es) ≡ entry_answers r e (seen s (f ∷ es))) [
+    elim (spot_cmp s f.position) as (λ r. (r ≡ Less → ⊥) → entry_answers r (with_gap m f) (finding_in s es) ≡ entry_answers r f (finding_in s es)) [ Less ↦ λ k. absurd (k refl) | Equal ↦ λ _. refl | Greater ↦ λ _. refl ] h
+    ∙ elim (spot_cmp s e.position) as (λ r. spot_cmp s e.position ≡ r → finding_in s (f ∷ es) ≡ entry_answers r e (finding_in s (f ∷ es))) [
       | Less ↦ λ k. absurd (h (spot-before s e.position f.position k a))
       | Equal ↦ λ k. absurd (h (spot-at s e.position f.position k a))
       | Greater ↦ λ _. refl
     ] refl
 
-pub take_out-behind : (m : Mark) (s : Spot) (bs : List Entry) (e f : Entry) (es : List Entry) → Ascend (bs ++ e ∷ f ∷ es) → (spot_cmp s f.position ≡ Less → ⊥) → seen s (take_out m e.position (bs ++ e ∷ f ∷ es)) ≡ seen s (bs ++ e ∷ f ∷ es)
-take_out-behind m s bs e f es a h = ap (seen s) (taken_out m bs e f es a) ∙ seen-same s bs (with_gap m f ∷ es) (e ∷ f ∷ es) (behind_both m s e f es (ascend-back bs (e ∷ f ∷ es) a).0 h)
+pub take_out-behind : (m : Mark) (s : Spot) (bs : List Entry) (e f : Entry) (es : List Entry) → Ascend (bs ++ e ∷ f ∷ es) → (spot_cmp s f.position ≡ Less → ⊥) → finding_in s (take_out m e.position (bs ++ e ∷ f ∷ es)) ≡ finding_in s (bs ++ e ∷ f ∷ es)
+take_out-behind m s bs e f es a h = ap (finding_in s) (taken_out m bs e f es a) ∙ seen-same s bs (with_gap m f ∷ es) (e ∷ f ∷ es) (behind_both m s e f es (ascend-back bs (e ∷ f ∷ es) a).0 h)
 
-pub join_row-other : (s : Spot) (x : Pos) (row : Row) (es : List Entry) → (spot_cmp s x ≡ Equal → ⊥) → seen s (join_row_at x row es) ≡ seen s es
-join_row-other s x row es off = at_entry-other (λ r. Some (joined_onto r row)) (λ m. m) s x (split x es) off ∙ split-seen s x es
+pub join_row-other : (s : Spot) (x : Pos) (row : Row) (es : List Entry) → (spot_cmp s x ≡ Equal → ⊥) → finding_in s (join_row_at x row es) ≡ finding_in s es
+join_row-other s x row es off = at_entry-other (λ r. Some (joined_onto r row)) (λ m. m) s x (gap_split x es) off ∙ split-seen s x es
 
-pub fill_row-other : (s : Spot) (x : Pos) (row : Row) (tomb : Option Tomb) (es : List Entry) → (spot_cmp s x ≡ Equal → ⊥) → seen s (fill_row x row tomb es) ≡ seen s es
+pub fill_row-other : (s : Spot) (x : Pos) (row : Row) (tomb : Option Tomb) (es : List Entry) → (spot_cmp s x ≡ Equal → ⊥) → finding_in s (fill_row x row tomb es) ≡ finding_in s es
 fill_row-other s x row tomb es off =
     at_entry-other (λ r. r) (known_with tomb) s x (join_row_at x row es) off ∙ join_row-other s x row es off

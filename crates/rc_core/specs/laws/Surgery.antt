@@ -14,10 +14,10 @@ use Rattle.rc_core.specs.declared.entries.Entry.{Entry}
 use Rattle.rc_core.specs.declared.entries.Flag.{Flag}
 use Rattle.rc_core.specs.declared.entries.Mark.{Mark}
 use Rattle.rc_core.specs.AtPlace.{EachEntry}
-use Rattle.rc_core.specs.Change.{at_entry, change, changed, dummy, lose_last_gap, split, split_by, with_gap, with_mark, with_marks, without_gap}
+use Rattle.rc_core.specs.Change.{at_entry, change, dummy, entry_changed, gap_split, lose_last_gap, split_by, with_gap, with_mark, with_marks, without_gap}
 use Rattle.rc_core.specs.Continuity.{EachOf, with_entries}
 use Rattle.rc_core.specs.Steps.{on_version, set_flags, set_tombs, with_flags, with_tombs}
-use Rattle.rc_core.specs.Version.{Ascend, Behind, On, Spot, Version, IsVersion, entry_answers, gap_ordering, found, seen, spot_cmp}
+use Rattle.rc_core.specs.Version.{Ascend, Behind, On, Spot, Version, IsVersion, entry_answers, gap_ordering, finding_of, finding_in, spot_cmp}
 use Rattle.rc_core.specs.laws.Losing.{map-append}
 use Rattle.rc_core.specs.laws.Order.{ascend-map, ends-map, put_position}
 use Rattle.rc_core.specs.laws.Placed.{each-wider}
@@ -62,19 +62,19 @@ each-of-back P (v ∷ vs) back h = each-of-back P vs back h.1
 
 -- ---- a split
 
-pub split-in-gap : (x : Pos) (front : List Entry) (e : Entry) (back : List Entry) → EachEntry (λ f. IsBefore f.position x) front → IsBefore x e.position → split x (front ++ e ∷ back) ≡ front ++ dummy x e.gap ∷ e ∷ back
-split-in-gap x [] e back b l = ap (λ r. split_by r x e back (split x back)) l
+pub split-in-gap : (x : Pos) (front : List Entry) (e : Entry) (back : List Entry) → EachEntry (λ f. IsBefore f.position x) front → IsBefore x e.position → gap_split x (front ++ e ∷ back) ≡ front ++ dummy x e.gap ∷ e ∷ back
+split-in-gap x [] e back b l = ap (λ r. split_by r x e back (gap_split x back)) l
 split-in-gap x (f ∷ fs) e back b l =
-    ap (λ r. split_by r x f (fs ++ e ∷ back) (split x (fs ++ e ∷ back))) (turn_to f.position x Less b.0)
+    ap (λ r. split_by r x f (fs ++ e ∷ back) (gap_split x (fs ++ e ∷ back))) (turn_to f.position x Less b.0)
     ∙ ap (λ es. f ∷ es) (split-in-gap x fs e back b.1 l)
 
-split_below : (front : List Entry) (e : Entry) (back : List Entry) → EachEntry (λ f. IsBefore f.position e.position) front → split e.position (front ++ e ∷ back) ≡ front ++ e ∷ back
-split_below [] e back b = ap (λ r. split_by r e.position e back (split e.position back)) (tied_itself pos_cmp_total e.position)
+split_below : (front : List Entry) (e : Entry) (back : List Entry) → EachEntry (λ f. IsBefore f.position e.position) front → gap_split e.position (front ++ e ∷ back) ≡ front ++ e ∷ back
+split_below [] e back b = ap (λ r. split_by r e.position e back (gap_split e.position back)) (tied_itself pos_cmp_total e.position)
 split_below (f ∷ fs) e back b =
-    ap (λ r. split_by r e.position f (fs ++ e ∷ back) (split e.position (fs ++ e ∷ back))) (turn_to f.position e.position Less b.0)
+    ap (λ r. split_by r e.position f (fs ++ e ∷ back) (gap_split e.position (fs ++ e ∷ back))) (turn_to f.position e.position Less b.0)
     ∙ ap (λ es. f ∷ es) (split_below fs e back b.1)
 
-pub split-at-entry : (front : List Entry) (e : Entry) (back : List Entry) → Ascend (front ++ e ∷ back) → split e.position (front ++ e ∷ back) ≡ front ++ e ∷ back
+pub split-at-entry : (front : List Entry) (e : Entry) (back : List Entry) → Ascend (front ++ e ∷ back) → gap_split e.position (front ++ e ∷ back) ≡ front ++ e ∷ back
 split-at-entry front e back a = split_below front e back (front-below front e back a)
 
 -- ---- the entry at a position
@@ -103,20 +103,20 @@ entry-at front e back g a =
 
 -- ---- what is seen at an entry, and right behind it
 
-not_answered : (s : Spot) (front rest : List Entry) → EachEntry (λ f. spot_cmp s f.position ≡ Greater) front → seen s (front ++ rest) ≡ seen s rest
+not_answered : (s : Spot) (front rest : List Entry) → EachEntry (λ f. spot_cmp s f.position ≡ Greater) front → finding_in s (front ++ rest) ≡ finding_in s rest
 not_answered s [] rest b = refl
-not_answered s (f ∷ fs) rest b = ap (λ r. entry_answers r f (seen s (fs ++ rest))) b.0 ∙ not_answered s fs rest b.1
+not_answered s (f ∷ fs) rest b = ap (λ r. entry_answers r f (finding_in s (fs ++ rest))) b.0 ∙ not_answered s fs rest b.1
 
-pub seen-on : (front : List Entry) (e : Entry) (back : List Entry) → Ascend (front ++ e ∷ back) → seen (On e.position) (front ++ e ∷ back) ≡ found e.at e.row
+pub seen-on : (front : List Entry) (e : Entry) (back : List Entry) → Ascend (front ++ e ∷ back) → finding_in (On e.position) (front ++ e ∷ back) ≡ finding_of e.at e.row
 seen-on front e back a =
     not_answered (On e.position) front (e ∷ back) (each-wider (λ f. IsBefore f.position e.position) (λ f. pos_cmp e.position f.position ≡ Greater) (λ f l. turn_to f.position e.position Less l) front (front-below front e back a))
-    ∙ ap (λ r. entry_answers r e (seen (On e.position) back)) (tied_itself pos_cmp_total e.position)
+    ∙ ap (λ r. entry_answers r e (finding_in (On e.position) back)) (tied_itself pos_cmp_total e.position)
 
-pub seen-behind : (front : List Entry) (e n : Entry) (back : List Entry) → Ascend (front ++ e ∷ n ∷ back) → seen (Behind e.position) (front ++ e ∷ n ∷ back) ≡ found n.gap None
+pub seen-behind : (front : List Entry) (e n : Entry) (back : List Entry) → Ascend (front ++ e ∷ n ∷ back) → finding_in (Behind e.position) (front ++ e ∷ n ∷ back) ≡ finding_of n.gap None
 seen-behind front e n back a =
     not_answered (Behind e.position) front (e ∷ n ∷ back) (each-wider (λ f. IsBefore f.position e.position) (λ f. gap_ordering (pos_cmp e.position f.position) ≡ Greater) (λ f l. ap gap_ordering (turn_to f.position e.position Less l)) front (front-below front e (n ∷ back) a))
-    ∙ ap (λ r. entry_answers (gap_ordering r) e (seen (Behind e.position) (n ∷ back))) (tied_itself pos_cmp_total e.position)
-    ∙ ap (λ r. entry_answers (gap_ordering r) n (seen (Behind e.position) back)) (ascend-back front (e ∷ n ∷ back) a).0
+    ∙ ap (λ r. entry_answers (gap_ordering r) e (finding_in (Behind e.position) (n ∷ back))) (tied_itself pos_cmp_total e.position)
+    ∙ ap (λ r. entry_answers (gap_ordering r) n (finding_in (Behind e.position) back)) (ascend-back front (e ∷ n ∷ back) a).0
 
 -- ---- a change over a stretch
 
@@ -130,13 +130,13 @@ in_front f q y r e = ap (λ o. changed_by f o q y) e
 pub change-over : (f : Mark → Mark) (front : List Entry) (a : Entry) (mid : List Entry) (z : Entry) (back : List Entry) → Ascend (front ++ a ∷ (mid ++ z ∷ back)) →
     change f a.position z.position (front ++ a ∷ (mid ++ z ∷ back)) ≡ front ++ with_mark f a ∷ (list_map (with_marks f) mid ++ with_gap (f z.gap) z ∷ back)
 change-over f front a mid z back asc =
-    ap (λ es. list_map here (split z.position es)) (split-at-entry front a (mid ++ z ∷ back) asc)
+    ap (λ es. list_map here (gap_split z.position es)) (split-at-entry front a (mid ++ z ∷ back) asc)
     ∙ ap (list_map here) split_again
     ∙ map-append here front a (mid ++ z ∷ back)
     ∙ (λ i. map_stays here front at_front i ++ at_a i ∷ (map-append here mid z back ∙ (λ j. map_same here (with_marks f) mid at_mid j ++ at_z j ∷ map_stays here back at_back j)) i)
   where
     here : Entry → Entry
-    here = changed f a.position z.position
+    here = entry_changed f a.position z.position
 
     rejoined : (front ++ a ∷ mid) ++ z ∷ back ≡ front ++ a ∷ (mid ++ z ∷ back)
     rejoined = append_assoc front (a ∷ mid) (z ∷ back)
@@ -144,8 +144,8 @@ change-over f front a mid z back asc =
     asc_z : Ascend ((front ++ a ∷ mid) ++ z ∷ back)
     asc_z = subst Ascend (sym rejoined) asc
 
-    split_again : split z.position (front ++ a ∷ (mid ++ z ∷ back)) ≡ front ++ a ∷ (mid ++ z ∷ back)
-    split_again = subst (λ es. split z.position es ≡ es) rejoined (split-at-entry (front ++ a ∷ mid) z back asc_z)
+    split_again : gap_split z.position (front ++ a ∷ (mid ++ z ∷ back)) ≡ front ++ a ∷ (mid ++ z ∷ back)
+    split_again = subst (λ es. gap_split z.position es ≡ es) rejoined (split-at-entry (front ++ a ∷ mid) z back asc_z)
 
     -- what stands before the end of the stretch
     before_z : EachEntry (λ y. IsBefore y.position z.position) (front ++ a ∷ mid)

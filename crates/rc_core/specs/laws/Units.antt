@@ -23,7 +23,7 @@ use Rattle.rc_core.specs.declared.entries.ChainKind.TheVariants.{Cache}
 use Rattle.rc_core.specs.declared.entries.Flag.TheVariants.{Inherit}
 use Rattle.rc_core.specs.SpotState.{SpotState, spot_state, joined_state, through}
 use Rattle.rc_core.specs.Version.{On, Behind, Version, state_at, static_state, end_position}
-use Rattle.rc_core.specs.Chain.{flagged, content, states_at, IsBare, IsKnown, IsEvenAt}
+use Rattle.rc_core.specs.Chain.{has_flag, content, states_at, IsBare, IsKnown, IsEvenAt}
 use Rattle.rc_core.specs.Continuity.{IsWithin, IsContinuous, static_states, version_tombs}
 use Rattle.rc_core.specs.Unit.{IsStretch, Adds, IsUnit}
 use Rattle.rc_core.specs.laws.Losing.{joined-again, tomb-alone, map-append, each-one, each-other, tombs-same, same-content, same-flagged}
@@ -111,8 +111,8 @@ cell_is c e = λ i. spot_state (e i) c.rows c.tombs
 pub on_top : (f : Version → SpotState) (older : List Version) (v : Version) → (f v).flag ≡ Inherit → list_map f (older ++ v ∷ []) ≡ list_map f older ++ spot_state Inherit (f v).rows (f v).tombs ∷ []
 on_top f older v e = map-append f older v [] ∙ ap (λ c. list_map f older ++ c ∷ []) (cell_is (f v) e)
 
-flagged_top : (f : Version → SpotState) (older : List Version) (v : Version) → (f v).flag ≡ Inherit → flagged Cache (list_map f (older ++ v ∷ [])) ≡ flagged Cache (list_map f older)
-flagged_top f older v e = ap (flagged Cache) (on_top f older v e) ∙ update-flagged Cache (list_map f older) (f v).rows (f v).tombs
+flagged_top : (f : Version → SpotState) (older : List Version) (v : Version) → (f v).flag ≡ Inherit → has_flag Cache (list_map f (older ++ v ∷ [])) ≡ has_flag Cache (list_map f older)
+flagged_top f older v e = ap (has_flag Cache) (on_top f older v e) ∙ update-flagged Cache (list_map f older) (f v).rows (f v).tombs
 
 pub known_same : (before now : List Version) (x : Pos) → through (states_at (On x) now) ≡ through (states_at (On x) before) → (IsBefore x end_position → through (states_at (Behind x) now) ≡ through (states_at (Behind x) before)) → IsKnown Cache before x → IsKnown Cache now x
 known_same before now x e g k = record {
@@ -132,10 +132,10 @@ module _ (writes all : List Mutation) (change : Mutation) (older : List Version)
   behind_left : (x : Pos) → (IsStretch p q (Clustered x) → ⊥) → through (states_at (Behind x) (older ++ w ∷ [])) ≡ through (states_at (Behind x) (older ++ v ∷ []))
   behind_left x off = seen-same (state_at (Behind x)) older v w (u.clustered_left (Behind x) off)
 
-  on_flag : (x : Pos) → IsStretch p q (Clustered x) → flagged Cache (states_at (On x) (older ++ w ∷ [])) ≡ flagged Cache (states_at (On x) older)
+  on_flag : (x : Pos) → IsStretch p q (Clustered x) → has_flag Cache (states_at (On x) (older ++ w ∷ [])) ≡ has_flag Cache (states_at (On x) older)
   on_flag x s = flagged_top (state_at (On x)) older w (u.clustered (On x) tt s).0
 
-  behind_flag : (x : Pos) → IsBefore x end_position → IsStretch p q (Clustered x) → flagged Cache (states_at (Behind x) (older ++ w ∷ [])) ≡ flagged Cache (states_at (Behind x) older)
+  behind_flag : (x : Pos) → IsBefore x end_position → IsStretch p q (Clustered x) → has_flag Cache (states_at (Behind x) (older ++ w ∷ [])) ≡ has_flag Cache (states_at (Behind x) older)
   behind_flag x b s = flagged_top (state_at (Behind x)) older w (u.clustered (Behind x) b s).0
 
   -- what is seen there, with what the mutation says
@@ -162,20 +162,20 @@ module _ (writes all : List Mutation) (change : Mutation) (older : List Version)
       (before_or_in p q (Clustered x) l)
 
   module _ (ok : IsContinuous None writes older) (k : IsContinuous (Some p) all (older ++ v ∷ [])) (src : SameSource (writes ++ change ∷ []) all) where
-    in_content : (x : Pos) → IsStretch p q (Clustered x) → IsTrue (flagged Cache (states_at (On x) (older ++ w ∷ []))) → content (states_at (On x) (older ++ w ∷ [])) ≡ source_at all x
+    in_content : (x : Pos) → IsStretch p q (Clustered x) → IsTrue (has_flag Cache (states_at (On x) (older ++ w ∷ []))) → content (states_at (On x) (older ++ w ∷ [])) ≡ source_at all x
     in_content x s f =
         on_rows x s
         ∙ update-content writes change x (states_at (On x) older) (state_at (On x) w).rows (state_at (On x) w).tombs (ok.clustered x tt (sym (on_flag x s) ∙ f)) (u.clustered (On x) tt s).1
         ∙ src.clustered x
 
-    unit_content : (x : Pos) → place_cmp (Clustered x) q ≡ Less → IsTrue (flagged Cache (states_at (On x) (older ++ w ∷ []))) → content (states_at (On x) (older ++ w ∷ [])) ≡ source_at all x
+    unit_content : (x : Pos) → place_cmp (Clustered x) q ≡ Less → IsTrue (has_flag Cache (states_at (On x) (older ++ w ∷ []))) → content (states_at (On x) (older ++ w ∷ [])) ≡ source_at all x
     unit_content x l f = ⊎_elim
         (λ b. same-content (states_at (On x) (older ++ v ∷ [])) (states_at (On x) (older ++ w ∷ [])) (on_left x (left x b))
         ∙ k.clustered x b (sym (same-flagged (states_at (On x) (older ++ v ∷ [])) (states_at (On x) (older ++ w ∷ [])) (on_left x (left x b))) ∙ f))
         (λ s. in_content x s f)
         (before_or_in p q (Clustered x) l)
 
-    unit_statics : place_cmp Static q ≡ Less → IsTrue (flagged Cache (static_states (older ++ w ∷ []))) → content (static_states (older ++ w ∷ [])) ≡ (source_at_static all, None)
+    unit_statics : place_cmp Static q ≡ Less → IsTrue (has_flag Cache (static_states (older ++ w ∷ []))) → content (static_states (older ++ w ∷ [])) ≡ (source_at_static all, None)
     unit_statics l f = ⊎_elim
         (λ b. let e = seen-same static_state older v w (u.statics_left (λ s. s.begun b)) in
         same-content (static_states (older ++ v ∷ [])) (static_states (older ++ w ∷ [])) e

@@ -22,7 +22,7 @@ use Rattle.rc_core.specs.Continuity.{IsWithin, EachOf, HoldNoMore, IsContinuous}
 use Rattle.rc_core.specs.Merge.{new_version}
 use Rattle.rc_core.specs.AtPlace.{IsAtPlace}
 use Rattle.rc_core.specs.Chains.{Chain, upto, phase_at, HasReach, IsNeeded, IsPinned, IsUpdating, NewestIs, IsChainContinuous, with_versions}
-use Rattle.rc_core.specs.Steps.{IsChain, IsSnapshotOf, SaysNoLess, begin_update, detach, pinned, release, released, snapshot, with_pins, with_updating}
+use Rattle.rc_core.specs.Steps.{IsChain, IsSnapshotOf, SaysNoLess, begin_update, detach, pins_with, pins_without, release, snapshot, with_pins, with_updating}
 use Rattle.rc_core.specs.Unit.{IsUnit, IsGivenUp}
 use Rattle.rc_core.specs.laws.Losing.{joined-again, tomb-alone}
 use Rattle.rc_core.specs.laws.Merging.{rows_by_parts, tombs_by_parts, source-more}
@@ -205,13 +205,13 @@ fewer-pins below c pins less k = record {
 }
 
 pub released-chain : (below : ℕ → List Mutation) (c : Chain) (i : ℕ) → IsChainContinuous below c → IsChainContinuous below (release i c)
-released-chain below c i k = fewer-pins below c (released i c.pins) (λ j h. inl (released-pin i c.pins j h)) k
+released-chain below c i k = fewer-pins below c (pins_without i c.pins) (λ j h. inl (released-pin i c.pins j h)) k
 
 pub fewer-form : (c : Chain) (pins : List (Option ℕ)) → ((j : ℕ) → IsPinned pins j → IsPinned c.pins j) → IsChain c → IsChain (with_pins pins c)
 fewer-form c pins less ch = record { versions = ch.versions; pins = λ j h. ch.pins j (less j h); unpinned = λ u j h. ch.unpinned u j (less j h) }
 
 pub released-form : (c : Chain) (i : ℕ) → IsChain c → IsChain (release i c)
-released-form c i ch = fewer-form c (released i c.pins) (λ j h. released-pin i c.pins j h) ch
+released-form c i ch = fewer-form c (pins_without i c.pins) (λ j h. released-pin i c.pins j h) ch
 
 -- the version that a snapshot pins was needed before
 snapshot_needed : (c : Chain) (pin : ℕ) (u : Option Place) → c.updating ≡ u → c.attached ≡ true → IsSnapshotOf c pin → IsNeeded c pin
@@ -235,10 +235,10 @@ more-form c pins version s more ch = record {
     there (Some p) e = omega (arith, s.1 (subst IsUpdating (sym e) tt))
 
 pub snapshot-chain : (below : ℕ → List Mutation) (c : Chain) (version : ℕ) → c.attached ≡ true → IsSnapshotOf c version → IsChainContinuous below c → IsChainContinuous below (snapshot version c)
-snapshot-chain below c version att s k = more-chain below c (pinned version c.pins) version att s (λ j h. pinned-or-new version c.pins j h) k
+snapshot-chain below c version att s k = more-chain below c (pins_with version c.pins) version att s (λ j h. pinned-or-new version c.pins j h) k
 
 pub snapshot-form : (c : Chain) (version : ℕ) → IsSnapshotOf c version → IsChain c → IsChain (snapshot version c)
-snapshot-form c version s ch = more-form c (pinned version c.pins) version s (λ j h. pinned-or-new version c.pins j h) ch
+snapshot-form c version s ch = more-form c (pins_with version c.pins) version s (λ j h. pinned-or-new version c.pins j h) ch
 
 pub detached-chain : (below : ℕ → List Mutation) (c : Chain) → IsChain c → IsChainContinuous below c → IsChainContinuous below (detach c)
 detached-chain below c ch k = record {

@@ -30,8 +30,8 @@ use Rattle.rc_mutation.specs.laws.Sources.{partition_tombs-append, static_rows-a
 use Rattle.rc_core.specs.declared.entries.ChainKind.TheVariants.{Memtable}
 use Rattle.rc_core.specs.declared.entries.Flag.TheVariants.{Inherit}
 use Rattle.rc_core.specs.SpotState.{SpotState, through, joined_state, silent}
-use Rattle.rc_core.specs.Version.{Spot, On, Behind, Version, IsVersion, state_at, static_state, seen}
-use Rattle.rc_core.specs.Chain.{flagged, content, states_at, flag_over, IsKnown}
+use Rattle.rc_core.specs.Version.{Spot, On, Behind, Version, IsVersion, state_at, static_state, finding_in}
+use Rattle.rc_core.specs.Chain.{has_flag, content, states_at, flag_over, IsKnown}
 use Rattle.rc_core.specs.Change.{joined_onto}
 use Rattle.rc_core.specs.Continuity.{EachOf, static_states, version_tombs}
 use Rattle.rc_core.specs.Merge.{IsSeenAlike, new_version}
@@ -178,7 +178,7 @@ module _ (older : List Version) (v : Version) (i : IsVersion v) (a : AllInherit 
       there : joined_row (state_at (On (row_pos key)) (row_joined (row_pos key) row v)).rows ≡ joined_row ((state_at (On (row_pos key)) v).rows ++ rows_in (row_pos key) ((key, row) ∷ []))
       there =
           ap (λ (c : SpotState). joined_row c.rows) (row_there older v i a (row_pos key) row)
-          ∙ onto_joined (seen (On (row_pos key)) v.entries).row row
+          ∙ onto_joined (finding_in (On (row_pos key)) v.entries).row row
           ∙ ap (λ rs. joined_row ((state_at (On (row_pos key)) v).rows ++ rs)) (sym (rows_here key row))
 
   row_tombs : (key : List Comp) (row : Row) (x : Pos) → (state_at (On x) (row_joined (row_pos key) row v)).tombs ≡ (state_at (On x) v).tombs
@@ -205,8 +205,8 @@ module _ (older : List Version) (v : Version) (i : IsVersion v) (a : AllInherit 
   range_tombs from to tomb x = elim (covers from to x) as (λ b. covers from to x ≡ b → greatest tomb_cmp (state_at (On x) (range_joined from to tomb v)).tombs ≡ greatest tomb_cmp ((state_at (On x) v).tombs ++ over b)) [
     | true ↦ λ e.
         ap (λ (c : SpotState). greatest tomb_cmp c.tombs) (range_inside older v i a from to tomb (On x) (position-reached x v.entries i.ends) e)
-        ∙ tomb-alone (greater tomb_cmp (seen (On x) v.entries).mark.tomb (Some tomb))
-        ∙ sym (greatest-two tomb_cmp_total tomb_cmp-IsAntisymmetric (seen (On x) v.entries).mark.tomb (Some tomb))
+        ∙ tomb-alone (greater tomb_cmp (finding_in (On x) v.entries).mark.tomb (Some tomb))
+        ∙ sym (greatest-two tomb_cmp_total tomb_cmp-IsAntisymmetric (finding_in (On x) v.entries).mark.tomb (Some tomb))
     | false ↦ λ e.
         ap (λ (c : SpotState). greatest tomb_cmp c.tombs) (range_outside older v i a from to tomb (On x) (position-reached x v.entries i.ends) e)
         ∙ ap (greatest tomb_cmp) (sym (append-nil (state_at (On x) v).tombs))
@@ -269,7 +269,7 @@ all_inherit : (s : Spot) (versions : List Version) → EachOf AllInherit version
 all_inherit s [] h = refl
 all_inherit s (v ∷ vs) h = over_inherit (through (states_at s vs)).flag (state_at s v) (through (states_at s vs)) (all_inherit s vs h.1) (h.0.clustered s)
 
-pub memtable-flagged : (s : Spot) (versions : List Version) → EachOf AllInherit versions → IsTrue (flagged Memtable (states_at s versions))
+pub memtable-flagged : (s : Spot) (versions : List Version) → EachOf AllInherit versions → IsTrue (has_flag Memtable (states_at s versions))
 memtable-flagged s versions h = flagged-through Memtable (states_at s versions) ∙ ap (flag_over Memtable) (all_inherit s versions h)
 
 pub memtable-known : (versions : List Version) → EachOf AllInherit versions → (x : Pos) → IsKnown Memtable versions x

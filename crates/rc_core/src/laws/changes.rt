@@ -14,8 +14,8 @@ ghost use Rattle.rc_position.specs.Position.{IsBefore, covers};
 ghost use Rattle.rc_core.specs.declared.entries.Entry.{Entry};
 ghost use Rattle.rc_core.specs.declared.entries.Flag.TheVariants.{Known};
 ghost use Rattle.rc_core.specs.declared.entries.Mark.{Mark};
-ghost use Rattle.rc_core.specs.Version.{Ascend, Behind, EndsWithDummy, IsBeforeEnd, IsVersion, On, Spot, Version, state_at, end_position, found, seen, spot_cmp, static_state};
-ghost use Rattle.rc_core.specs.Change.{change, drop_at, fill_gap, fill_row, join_range, join_row_at, joined_onto, known_with, lose_last_gap, lost_mark, mark, position_of, raised_mark, split, take_out};
+ghost use Rattle.rc_core.specs.Version.{Ascend, Behind, EndsWithDummy, IsBeforeEnd, IsVersion, On, Spot, Version, state_at, end_position, finding_of, finding_in, spot_cmp, static_state};
+ghost use Rattle.rc_core.specs.Change.{change, drop_at, fill_gap, fill_row, gap_split, join_range, join_row_at, joined_onto, known_with, lose_last_gap, lost_mark, mark, position_of, raised_mark, take_out};
 
 /// The entries of a version reach every position, and every gap behind a position before the end.
 pub fn every_spot_is_reached()
@@ -25,53 +25,53 @@ pub fn every_spot_is_reached()
 
 /// A split changes nothing that is said anywhere.
 pub fn a_split_changes_nothing()
-    ensures { (s : Spot) (x : Pos) (entries : List Entry) → seen s (split x entries) ≡ seen s entries }
+    ensures { (s : Spot) (x : Pos) (entries : List Entry) → finding_in s (gap_split x entries) ≡ finding_in s entries }
 {}
 
 /// A change puts its function on the flag and the tombstone of each spot from its start on and before its end, and on no other.
 pub fn a_change_is_its_function_inside()
     ensures { (f : Mark → Mark) (s : Spot) (from to : Pos) (entries : List Entry) → IsBeforeEnd s entries →
-        seen s (change f from to entries) ≡ cond (covers from to (position_of s)) (found (f (seen s entries).mark) (seen s entries).row) (seen s entries) }
+        finding_in s (change f from to entries) ≡ cond (covers from to (position_of s)) (finding_of (f (finding_in s entries).mark) (finding_in s entries).row) (finding_in s entries) }
 {}
 
 /// A joined range raises the tombstone inside, and leaves flags, rows and all outside.
 pub fn a_joined_range_raises_the_tombstone()
     ensures { (s : Spot) (from to : Pos) (tomb : Tomb) (entries : List Entry) → IsBeforeEnd s entries →
-        seen s (join_range from to tomb entries) ≡ cond (covers from to (position_of s)) (found (raised_mark (Some tomb) (seen s entries).mark) (seen s entries).row) (seen s entries) }
+        finding_in s (join_range from to tomb entries) ≡ cond (covers from to (position_of s)) (finding_of (raised_mark (Some tomb) (finding_in s entries).mark) (finding_in s entries).row) (finding_in s entries) }
 {}
 
 /// A filled gap is known inside with its tombstone, and all outside is as before.
 pub fn a_filled_gap_is_known()
     ensures { (s : Spot) (from to : Pos) (tomb : Option Tomb) (entries : List Entry) → IsBeforeEnd s entries →
-        seen s (fill_gap from to tomb entries) ≡ cond (covers from to (position_of s)) (found (mark Known tomb) (seen s entries).row) (seen s entries) }
+        finding_in s (fill_gap from to tomb entries) ≡ cond (covers from to (position_of s)) (finding_of (mark Known tomb) (finding_in s entries).row) (finding_in s entries) }
 {}
 
 /// A joined row is joined at its position, where flag and tombstone stay; at every other spot nothing changes.
 pub fn a_joined_row_is_joined_at_its_position()
     ensures there { (x : Pos) (row : Row) (entries : List Entry) → EndsWithDummy entries →
-        seen (On x) (join_row_at x row entries) ≡ found (seen (On x) entries).mark (Some (joined_onto (seen (On x) entries).row row)) }
-    ensures elsewhere { (s : Spot) (x : Pos) (row : Row) (entries : List Entry) → s ≢ On x → seen s (join_row_at x row entries) ≡ seen s entries }
+        finding_in (On x) (join_row_at x row entries) ≡ finding_of (finding_in (On x) entries).mark (Some (joined_onto (finding_in (On x) entries).row row)) }
+    ensures elsewhere { (s : Spot) (x : Pos) (row : Row) (entries : List Entry) → s ≢ On x → finding_in s (join_row_at x row entries) ≡ finding_in s entries }
 {}
 
 /// A filled row is joined at its position and known there, its tombstone joined; at every other spot nothing changes.
 pub fn a_filled_row_is_known_at_its_position()
     ensures there { (x : Pos) (row : Row) (tomb : Option Tomb) (entries : List Entry) → EndsWithDummy entries →
-        seen (On x) (fill_row x row tomb entries) ≡ found (known_with tomb (seen (On x) entries).mark) (Some (joined_onto (seen (On x) entries).row row)) }
-    ensures elsewhere { (s : Spot) (x : Pos) (row : Row) (tomb : Option Tomb) (entries : List Entry) → s ≢ On x → seen s (fill_row x row tomb entries) ≡ seen s entries }
+        finding_in (On x) (fill_row x row tomb entries) ≡ finding_of (known_with tomb (finding_in (On x) entries).mark) (Some (joined_onto (finding_in (On x) entries).row row)) }
+    ensures elsewhere { (s : Spot) (x : Pos) (row : Row) (tomb : Option Tomb) (entries : List Entry) → s ≢ On x → finding_in s (fill_row x row tomb entries) ≡ finding_in s entries }
 {}
 
 /// Where an entry before the end is taken out, each spot is as before, or it is Unknown with nothing held there. Lost are exactly the
 /// spots from the entry before it on up to the next one, both not included.
 pub fn a_dropped_entry_is_same_or_lost()
     ensures each { (s : Spot) (x : Pos) (entries : List Entry) → Ascend entries → EndsWithDummy entries → IsBefore x end_position →
-        (seen s (drop_at x entries) ≡ seen s entries) ⊎ (seen s (drop_at x entries) ≡ found lost_mark None) }
+        (finding_in s (drop_at x entries) ≡ finding_in s entries) ⊎ (finding_in s (drop_at x entries) ≡ finding_of lost_mark None) }
     ensures lost { (s : Spot) (front : List Entry) (e next : Entry) (back : List Entry) → Ascend (front ++ e ∷ next ∷ back) →
         (IsBeforeEnd s front → ⊥) → spot_cmp s next.position ≡ Less →
-        seen s (drop_at e.position (front ++ e ∷ next ∷ back)) ≡ found lost_mark None }
+        finding_in s (drop_at e.position (front ++ e ∷ next ∷ back)) ≡ finding_of lost_mark None }
     ensures before { (s : Spot) (front : List Entry) (e next : Entry) (back : List Entry) → Ascend (front ++ e ∷ next ∷ back) →
-        IsBeforeEnd s front → seen s (drop_at e.position (front ++ e ∷ next ∷ back)) ≡ seen s (front ++ e ∷ next ∷ back) }
+        IsBeforeEnd s front → finding_in s (drop_at e.position (front ++ e ∷ next ∷ back)) ≡ finding_in s (front ++ e ∷ next ∷ back) }
     ensures behind { (s : Spot) (front : List Entry) (e next : Entry) (back : List Entry) → Ascend (front ++ e ∷ next ∷ back) →
-        spot_cmp s next.position ≢ Less → seen s (drop_at e.position (front ++ e ∷ next ∷ back)) ≡ seen s (front ++ e ∷ next ∷ back) }
+        spot_cmp s next.position ≢ Less → finding_in s (drop_at e.position (front ++ e ∷ next ∷ back)) ≡ finding_in s (front ++ e ∷ next ∷ back) }
 {}
 
 /// Where an entry before the end is taken out, and the gap before the next one gets a mark, exactly the spots from the entry before it on
@@ -79,17 +79,17 @@ pub fn a_dropped_entry_is_same_or_lost()
 pub fn a_taken_out_entry_leaves_the_mark()
     ensures between { (m : Mark) (s : Spot) (front : List Entry) (e next : Entry) (back : List Entry) → Ascend (front ++ e ∷ next ∷ back) →
         (IsBeforeEnd s front → ⊥) → spot_cmp s next.position ≡ Less →
-        seen s (take_out m e.position (front ++ e ∷ next ∷ back)) ≡ found m None }
+        finding_in s (take_out m e.position (front ++ e ∷ next ∷ back)) ≡ finding_of m None }
     ensures before { (m : Mark) (s : Spot) (front : List Entry) (e next : Entry) (back : List Entry) → Ascend (front ++ e ∷ next ∷ back) →
-        IsBeforeEnd s front → seen s (take_out m e.position (front ++ e ∷ next ∷ back)) ≡ seen s (front ++ e ∷ next ∷ back) }
+        IsBeforeEnd s front → finding_in s (take_out m e.position (front ++ e ∷ next ∷ back)) ≡ finding_in s (front ++ e ∷ next ∷ back) }
     ensures behind { (m : Mark) (s : Spot) (front : List Entry) (e next : Entry) (back : List Entry) → Ascend (front ++ e ∷ next ∷ back) →
-        spot_cmp s next.position ≢ Less → seen s (take_out m e.position (front ++ e ∷ next ∷ back)) ≡ seen s (front ++ e ∷ next ∷ back) }
+        spot_cmp s next.position ≢ Less → finding_in s (take_out m e.position (front ++ e ∷ next ∷ back)) ≡ finding_in s (front ++ e ∷ next ∷ back) }
 {}
 
 /// Each change of a version's entries leaves those of a version: they ascend, and the last one is the end dummy. A row stands before the end.
 pub fn each_change_leaves_a_version()
     ensures stretch { (f : Mark → Mark) (from to : Pos) (v : Version) → IsVersion v → IsVersion (with_entries (change f from to v.entries) v) }
-    ensures split { (x : Pos) (v : Version) → IsVersion v → IsVersion (with_entries (split x v.entries) v) }
+    ensures split { (x : Pos) (v : Version) → IsVersion v → IsVersion (with_entries (gap_split x v.entries) v) }
     ensures joined { (x : Pos) (row : Row) (v : Version) → IsBefore x end_position → IsVersion v → IsVersion (with_entries (join_row_at x row v.entries) v) }
     ensures filled { (x : Pos) (row : Row) (tomb : Option Tomb) (v : Version) → IsBefore x end_position → IsVersion v →
         IsVersion (with_entries (fill_row x row tomb v.entries) v) }
@@ -108,5 +108,5 @@ pub fn a_joined_partition_tombstone_raises_the_head()
 /// Where the gap before the end dummy is lost, each spot is as before, or it is Unknown with nothing held there.
 pub fn an_evicted_end_dummy_is_same_or_lost()
     ensures { (s : Spot) (entries : List Entry) →
-        (seen s (lose_last_gap entries) ≡ seen s entries) ⊎ (seen s (lose_last_gap entries) ≡ found lost_mark None) }
+        (finding_in s (lose_last_gap entries) ≡ finding_in s entries) ⊎ (finding_in s (lose_last_gap entries) ≡ finding_of lost_mark None) }
 {}

@@ -12,7 +12,7 @@ ghost use Rattle.rc_mutation.specs.Source.{source_at, source_at_static};
 ghost use Rattle.rc_core.specs.declared.entries.ChainKind.TheVariants.{Cache};
 ghost use Rattle.rc_core.specs.SpotState.{through};
 ghost use Rattle.rc_core.specs.Version.{IsBeforeEnd, IsVersion, On, Spot, Version};
-ghost use Rattle.rc_core.specs.Chain.{IsKnown, states_at, flagged};
+ghost use Rattle.rc_core.specs.Chain.{IsKnown, states_at, has_flag};
 ghost use Rattle.rc_core.specs.Change.{fill_gap, fill_row, position_of};
 ghost use Rattle.rc_core.specs.Continuity.{IsContinuous, fill_statics, static_states, with_entries};
 
@@ -51,7 +51,7 @@ pub fn a_filled_row_keeps_continuity()
 
 /// A static row filled into the newest version is known, also where there is nothing to fill, and keeps its continuity.
 pub fn a_filled_static_row_is_known_and_keeps_continuity()
-    ensures known { (older : List Version) (v : Version) (given : Option Row) → IsTrue (flagged Cache (static_states (older ++ fill_statics given v ∷ []))) }
+    ensures known { (older : List Version) (v : Version) (given : Option Row) → IsTrue (has_flag Cache (static_states (older ++ fill_statics given v ∷ []))) }
     ensures kept { (writes : List Mutation) (older : List Version) (v : Version) (given : Option Row) →
         joined_row (option_to_list given) ≡ source_at_static writes → IsContinuous None writes (older ++ v ∷ []) →
         IsContinuous None writes (older ++ fill_statics given v ∷ []) }

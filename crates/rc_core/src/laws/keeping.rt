@@ -14,7 +14,7 @@ ghost use Rattle.rc_core.specs.declared.entries.ChainKind.TheVariants.{Cache};
 ghost use Rattle.rc_core.specs.Chains.{Chain, IsChainContinuous, IsNeeded, phase_at, upto, with_versions};
 ghost use Rattle.rc_core.specs.Continuity.{fill_statics};
 ghost use Rattle.rc_core.specs.Merge.{IsMerged, IsSeenAlike, IsSilent};
-ghost use Rattle.rc_core.specs.Steps.{IsCarriedIn, IsChain, MayPopulate, add_version, drop_version, gap_filled, new_chain, on_newest, opened_version, renumbered, row_filled, with_newest, with_phase};
+ghost use Rattle.rc_core.specs.Steps.{IsCarriedIn, IsChain, MayPopulate, add_version, drop_version, gap_filled, new_chain, number_after_removal, on_newest, opened_version, row_filled, with_newest, with_phase};
 ghost use Rattle.rc_core.specs.Version.{IsVersion, Version, end_position};
 
 /// A cache chain that is opened with the source's head, its static row known also where there is none, is continuous.
@@ -109,5 +109,5 @@ pub fn a_dropped_version_keeps_the_whole_chain()
     ensures seen { (c : Chain) (front back : List Version) (v next : Version) → c.versions ≡ front ++ v ∷ next ∷ back →
         (IsNeeded c (length front) → ⊥) → IsSilent v →
         greatest tomb_cmp (option_to_list v.pt ++ option_to_list next.pt) ≡ greatest tomb_cmp (option_to_list next.pt) →
-        (j : ℕ) → IsNeeded c j → IsSeenAlike (upto c.versions j) (upto (drop_version (length front) c).versions (renumbered (length front) j)) }
+        (j : ℕ) → IsNeeded c j → IsSeenAlike (upto c.versions j) (upto (drop_version (length front) c).versions (number_after_removal (length front) j)) }
 {}

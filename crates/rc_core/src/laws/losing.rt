@@ -7,7 +7,7 @@ ghost use Rattle.rc_core.specs.declared.entries.ChainKind.TheVariants.{Cache};
 ghost use Rattle.rc_core.specs.SpotState.{SpotState, through};
 ghost use Rattle.rc_position.specs.declared.positions.Pos.{Pos};
 ghost use Rattle.rc_core.specs.Version.{IsVersion, Version, end_position};
-ghost use Rattle.rc_core.specs.Chain.{content, flagged};
+ghost use Rattle.rc_core.specs.Chain.{content, has_flag};
 ghost use Rattle.rc_core.specs.Chains.{Chain, IsChainContinuous, IsUpdating, NewestIs, with_versions};
 ghost use Rattle.rc_core.specs.AtPlace.{HasEntryAt, IsAtPlace};
 ghost use Rattle.rc_core.specs.Continuity.{HoldNoMore, IsContinuous, IsEvicted, IsSameOrLost, SameOrLost, with_entries, without_statics};
@@ -21,8 +21,8 @@ pub fn a_lost_state_is_seen_as_unknown_or_not_at_all()
 
 /// What is known after a loss was known before, with the same content.
 pub fn what_is_known_after_a_loss_was_known_before()
-    ensures { (before now : List SpotState) → SameOrLost (through before) (through now) → IsTrue (flagged Cache now) →
-        IsTrue (flagged Cache before) × (content now ≡ content before) }
+    ensures { (before now : List SpotState) → SameOrLost (through before) (through now) → IsTrue (has_flag Cache now) →
+        IsTrue (has_flag Cache before) × (content now ≡ content before) }
 {}
 
 /// Where one version lost an object, every version above it is seen as before, or Unknown.

@@ -16,7 +16,7 @@ ghost use Rattle.rc_mutation.specs.Source.{SameSource, rows_in, source_at};
 ghost use Rattle.rc_mutation.specs.Cover.{tombs_over};
 ghost use Rattle.rc_core.specs.declared.parts.Part.{Part};
 ghost use Rattle.rc_core.specs.declared.entries.ChainKind.TheVariants.{Memtable};
-ghost use Rattle.rc_core.specs.Chain.{IsEvenAt, IsKnown, states_at, content, flagged};
+ghost use Rattle.rc_core.specs.Chain.{IsEvenAt, IsKnown, states_at, content, has_flag};
 ghost use Rattle.rc_core.specs.Chains.{AllInherit, Chain, IsMemtableChain, IsNeeded, upto, with_versions};
 ghost use Rattle.rc_core.specs.Continuity.{EachOf};
 ghost use Rattle.rc_core.specs.StandsFor.{ArePartsFrom, IsWholeAt, StandsFor, part_pieces, rows_of, written_pt, written_range, written_row, written_statics};
@@ -94,7 +94,7 @@ pub fn a_write_is_one_more()
 
 /// Every place of a memtable's chain is known, and a row is seen at the position of its key alone.
 pub fn a_memtable_is_known_everywhere()
-    ensures spot { (s : Spot) (versions : List Version) → EachOf AllInherit versions → IsTrue (flagged Memtable (states_at s versions)) }
+    ensures spot { (s : Spot) (versions : List Version) → EachOf AllInherit versions → IsTrue (has_flag Memtable (states_at s versions)) }
     ensures known { (versions : List Version) → EachOf AllInherit versions → (x : Pos) → IsKnown Memtable versions x }
     ensures row { (writes : List Mutation) (versions : List Version) (x : Pos) → StandsFor writes versions →
         (content (states_at (On x) versions)).0 ≢ empty_row → x ≡ row_pos x.prefix }

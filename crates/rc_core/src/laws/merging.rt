@@ -14,7 +14,7 @@ ghost use Rattle.rc_core.specs.declared.entries.ChainKind.{ChainKind};
 ghost use Rattle.rc_core.specs.declared.entries.Flag.TheVariants.{Inherit};
 ghost use Rattle.rc_core.specs.SpotState.{SpotState, spot_state};
 ghost use Rattle.rc_core.specs.Version.{Spot, Version};
-ghost use Rattle.rc_core.specs.Chain.{IsKnown, states_at, content, flagged};
+ghost use Rattle.rc_core.specs.Chain.{IsKnown, states_at, content, has_flag};
 ghost use Rattle.rc_core.specs.Continuity.{HoldNoMore, IsContinuous};
 ghost use Rattle.rc_core.specs.Merge.{IsMerged, IsSeenAlike, IsSilent, new_version};
 
@@ -52,7 +52,7 @@ pub fn what_is_seen_alike_keeps_continuity()
 /// the source of both where it was the source below.
 pub fn an_update_joins_its_mutation()
     ensures flagged { (kind : ChainKind) (below : List SpotState) (rows : List Row) (tombs : List Tomb) →
-        flagged kind (below ++ spot_state Inherit rows tombs ∷ []) ≡ flagged kind below }
+        has_flag kind (below ++ spot_state Inherit rows tombs ∷ []) ≡ has_flag kind below }
     ensures content { (writes : List Mutation) (change : Mutation) (x : Pos) (below : List SpotState) (rows : List Row) (tombs : List Tomb) →
         content below ≡ source_at writes x → (joined_row rows, greatest tomb_cmp tombs) ≡ source_at (change ∷ []) x →
         content (below ++ spot_state Inherit rows tombs ∷ []) ≡ source_at (writes ++ change ∷ []) x }

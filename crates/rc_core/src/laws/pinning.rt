@@ -9,18 +9,18 @@ ghost use Rattle.rc_position.specs.Position.{IsBefore};
 ghost use Rattle.rc_core.specs.declared.entries.ChainKind.{ChainKind};
 ghost use Rattle.rc_core.specs.declared.entries.ChainKind.TheVariants.{Cache, Memtable};
 ghost use Rattle.rc_core.specs.Free.{IsAbandoned, free_entry, free_statics, freed_mark};
-ghost use Rattle.rc_core.specs.Version.{IsVersion, Spot, Version, state_at, state_of, end_position, found};
-ghost use Rattle.rc_core.specs.Steps.{IsChain, IsSnapshotOf, detach, free_number, pin_at, pinned, release, released, renumbered, snapshot, with_pins};
+ghost use Rattle.rc_core.specs.Version.{IsVersion, Spot, Version, state_at, state_of, end_position, finding_of};
+ghost use Rattle.rc_core.specs.Steps.{IsChain, IsSnapshotOf, detach, free_number, number_after_removal, pin_at, pins_with, pins_without, release, snapshot, with_pins};
 
 /// A snapshot gets a number that was free, and the numbers of others stay, then and while others are released. A version is pinned where some
 /// number has it.
 pub fn a_snapshots_number_stays()
     ensures free { (pins : List (Option ℕ)) → pin_at pins (free_number pins) ≡ None }
-    ensures given { (version : ℕ) (pins : List (Option ℕ)) → pin_at (pinned version pins) (free_number pins) ≡ Some version }
-    ensures others { (version : ℕ) (pins : List (Option ℕ)) (i : ℕ) → i ≢ free_number pins → pin_at (pinned version pins) i ≡ pin_at pins i }
-    ensures released { (i : ℕ) (pins : List (Option ℕ)) → pin_at (released i pins) i ≡ None }
-    ensures kept { (i k : ℕ) (pins : List (Option ℕ)) → k ≢ i → pin_at (released i pins) k ≡ pin_at pins k }
-    ensures dropped { (n i : ℕ) (pins : List (Option ℕ)) → pin_at (map (option_map (renumbered n)) pins) i ≡ option_map (renumbered n) (pin_at pins i) }
+    ensures given { (version : ℕ) (pins : List (Option ℕ)) → pin_at (pins_with version pins) (free_number pins) ≡ Some version }
+    ensures others { (version : ℕ) (pins : List (Option ℕ)) (i : ℕ) → i ≢ free_number pins → pin_at (pins_with version pins) i ≡ pin_at pins i }
+    ensures released { (i : ℕ) (pins : List (Option ℕ)) → pin_at (pins_without i pins) i ≡ None }
+    ensures kept { (i k : ℕ) (pins : List (Option ℕ)) → k ≢ i → pin_at (pins_without i pins) k ≡ pin_at pins k }
+    ensures dropped { (n i : ℕ) (pins : List (Option ℕ)) → pin_at (map (option_map (number_after_removal n)) pins) i ≡ option_map (number_after_removal n) (pin_at pins i) }
     ensures pinned { (pins : List (Option ℕ)) (i j : ℕ) → pin_at pins i ≡ Some j → IsPinned pins j }
     ensures numbered { (pins : List (Option ℕ)) (j : ℕ) → IsPinned pins j → (i : ℕ) × (pin_at pins i ≡ Some j) }
 {}
@@ -66,7 +66,7 @@ pub fn a_detached_chain_stays_continuous()
 /// Where an entry before the end is freed, each spot is as before, or it says what is said where an object was freed.
 pub fn a_freed_entry_is_said_no_more()
     ensures { (kind : ChainKind) (v : Version) (x : Pos) → IsVersion v → IsBefore x end_position → (s : Spot) →
-        (state_at s (free_entry kind x v) ≡ state_at s v) ⊎ (state_at s (free_entry kind x v) ≡ state_of (found (freed_mark kind) None)) }
+        (state_at s (free_entry kind x v) ≡ state_at s v) ⊎ (state_at s (free_entry kind x v) ≡ state_of (finding_of (freed_mark kind) None)) }
 {}
 
 /// One object freed of a cache chain that nobody finds or reads leaves it continuous: an entry before the end, a static row, a version.

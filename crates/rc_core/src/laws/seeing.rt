@@ -3,7 +3,7 @@
 ghost use Rattle.std.specs.Prelude.{◌≡◌, ◌++◌, ◌∷◌, [], ℕ, ◌<◌, List, Some, None, IsTrue, drop, length, true, false};
 ghost use Rattle.rc_core.specs.declared.entries.ChainKind.{ChainKind};
 ghost use Rattle.rc_core.specs.SpotState.{SpotState, silent, under, through, joined_state};
-ghost use Rattle.rc_core.specs.Chain.{base, content, decides, first_flag, flag_over, flagged};
+ghost use Rattle.rc_core.specs.Chain.{base, content, decides, first_flag, flag_over, has_flag};
 
 /// A state that says nothing is seen through, whether it lies below or above; and of three states any two may be seen first.
 pub fn seeing_through_is_a_monoid()
@@ -26,6 +26,6 @@ pub fn the_base_is_the_newest_that_decides()
 
 /// What a reader believes, the base's flag and the join from the base on, is what the fold of the states gives.
 pub fn the_fold_is_what_is_seen()
-    ensures flag { (kind : ChainKind) (cells : List SpotState) → flagged kind cells ≡ flag_over kind (through cells).flag }
+    ensures flag { (kind : ChainKind) (cells : List SpotState) → has_flag kind cells ≡ flag_over kind (through cells).flag }
     ensures content { (cells : List SpotState) → content cells ≡ joined_state (through cells) }
 {}

@@ -6,9 +6,9 @@ ghost use Rattle.rc_cell.specs.declared.writes.Tomb.{Tomb};
 ghost use Rattle.rc_position.specs.declared.positions.Pos.{Pos};
 ghost use Rattle.rc_position.specs.Position.{IsBefore};
 ghost use Rattle.rc_core.specs.AtPlace.{EachEntry};
-ghost use Rattle.rc_core.specs.Change.{at_entry, change, dummy, lose_last_gap, split, take_out, with_gap, with_mark, with_marks, without_gap};
+ghost use Rattle.rc_core.specs.Change.{at_entry, change, dummy, gap_split, lose_last_gap, take_out, with_gap, with_mark, with_marks, without_gap};
 ghost use Rattle.rc_core.specs.Steps.{on_version, set_flags, set_tombs};
-ghost use Rattle.rc_core.specs.Version.{Ascend, Behind, IsVersion, On, Version, found, seen};
+ghost use Rattle.rc_core.specs.Version.{Ascend, Behind, IsVersion, On, Version, finding_in, finding_of};
 ghost use Rattle.rc_core.specs.declared.entries.Entry.{Entry};
 ghost use Rattle.rc_core.specs.declared.entries.Flag.{Flag};
 ghost use Rattle.rc_core.specs.declared.entries.Mark.{Mark};
@@ -22,8 +22,8 @@ pub fn entries_ascend_around_each()
 /// A split in the gap before an entry makes a dummy there; a split at an entry makes none.
 pub fn a_split_makes_a_dummy_in_a_gap()
     ensures gap { (x : Pos) (front : List Entry) (e : Entry) (back : List Entry) → EachEntry (λ f. IsBefore f.position x) front → IsBefore x e.position →
-        split x (front ++ e ∷ back) ≡ front ++ dummy x e.gap ∷ e ∷ back }
-    ensures entry { (front : List Entry) (e : Entry) (back : List Entry) → Ascend (front ++ e ∷ back) → split e.position (front ++ e ∷ back) ≡ front ++ e ∷ back }
+        gap_split x (front ++ e ∷ back) ≡ front ++ dummy x e.gap ∷ e ∷ back }
+    ensures entry { (front : List Entry) (e : Entry) (back : List Entry) → Ascend (front ++ e ∷ back) → gap_split e.position (front ++ e ∷ back) ≡ front ++ e ∷ back }
 {}
 
 /// What is done to the entry at a position is done to that entry alone.
@@ -46,8 +46,8 @@ pub fn a_change_goes_from_one_entry_to_another()
 
 /// At an entry what it says itself is seen, and right behind it what the gap before the next one says.
 pub fn an_entry_is_seen_at_its_position()
-    ensures at { (front : List Entry) (e : Entry) (back : List Entry) → Ascend (front ++ e ∷ back) → seen (On e.position) (front ++ e ∷ back) ≡ found e.at e.row }
-    ensures behind { (front : List Entry) (e next : Entry) (back : List Entry) → Ascend (front ++ e ∷ next ∷ back) → seen (Behind e.position) (front ++ e ∷ next ∷ back) ≡ found next.gap None }
+    ensures at { (front : List Entry) (e : Entry) (back : List Entry) → Ascend (front ++ e ∷ back) → finding_in (On e.position) (front ++ e ∷ back) ≡ finding_of e.at e.row }
+    ensures behind { (front : List Entry) (e next : Entry) (back : List Entry) → Ascend (front ++ e ∷ next ∷ back) → finding_in (Behind e.position) (front ++ e ∷ next ∷ back) ≡ finding_of next.gap None }
 {}
 
 /// What is done to the version of a number is done to that one alone.

@@ -4,7 +4,7 @@ use Rattle.std.specs.Prelude.{sum_by}
 use Rattle.std.specs.Option.{option_map}
 use Rattle.lsa_region.specs.Region.{live_bytes}
 use Rattle.rc_partition.specs.laws.Lists.{sum-middle, sum-without}
-use Rattle.rc_registry.specs.Registry.{put}
+use Rattle.rc_registry.specs.Registry.{put_at_number}
 use Rattle.rc_memory.specs.declared.counts.Counts.{Counts}
 use Rattle.rc_memory.specs.Kept.{present}
 use Rattle.rc_memory.specs.Memory.{KeptChain, Memory, on_chain}
@@ -21,20 +21,20 @@ more_sum a b c = omega arith
 
 -- of which one is another one that adds as much
 pub sum-on : (f : KeptChain → ℕ) (g : KeptChain → KeptChain) → ((k : KeptChain) → f (g k) ≡ f k) → (id : ℕ) (cs : List (Option KeptChain)) → sum_by f (present (on_chain id g cs)) ≡ sum_by f (present cs)
-sum-on f g same id cs = elim (slice_index_or cs id None) as (λ o. slice_index_or cs id None ≡ o → sum_by f (present (put id (option_map g o) cs)) ≡ sum_by f (present cs)) [
+sum-on f g same id cs = elim (slice_index_or cs id None) as (λ o. slice_index_or cs id None ≡ o → sum_by f (present (put_at_number id (option_map g o) cs)) ≡ sum_by f (present cs)) [
   | None ↦ λ e. let p = placed cs id in ap (sum_by f) (p.without ∙ sym (p.free e))
   | Some k ↦ λ e. let p = placed cs id in
       ap (sum_by f) (p.with_one (g k)) ∙ sum-middle f p.front p.back (g k) ∙ same_sum (sum_by f p.front) (f (g k)) (sum_by f p.back) (f k) (same k) ∙ sym (ap (sum_by f) (p.there k e) ∙ sum-middle f p.front p.back k)
 ] refl
 
 -- with one more
-pub sum-made : (f : KeptChain → ℕ) (id : ℕ) (k : KeptChain) (cs : List (Option KeptChain)) → slice_index_or cs id None ≡ None → sum_by f (present (put id (Some k) cs)) ≡ sum_by f (present cs) + f k
+pub sum-made : (f : KeptChain → ℕ) (id : ℕ) (k : KeptChain) (cs : List (Option KeptChain)) → slice_index_or cs id None ≡ None → sum_by f (present (put_at_number id (Some k) cs)) ≡ sum_by f (present cs) + f k
 sum-made f id k cs free =
     let p = placed cs id in
     ap (sum_by f) (p.with_one k) ∙ sum-middle f p.front p.back k ∙ more_sum (sum_by f p.front) (f k) (sum_by f p.back) ∙ ap (λ n. n + f k) (sym (ap (sum_by f) (p.free free) ∙ sum-without f p.front p.back))
 
 -- with one less
-pub sum-gone : (f : KeptChain → ℕ) (id : ℕ) (k : KeptChain) (cs : List (Option KeptChain)) → slice_index_or cs id None ≡ Some k → sum_by f (present cs) ≡ sum_by f (present (put id None cs)) + f k
+pub sum-gone : (f : KeptChain → ℕ) (id : ℕ) (k : KeptChain) (cs : List (Option KeptChain)) → slice_index_or cs id None ≡ Some k → sum_by f (present cs) ≡ sum_by f (present (put_at_number id None cs)) + f k
 sum-gone f id k cs there =
     let p = placed cs id in
     ap (sum_by f) (p.there k there) ∙ sum-middle f p.front p.back k ∙ more_sum (sum_by f p.front) (f k) (sum_by f p.back) ∙ ap (λ n. n + f k) (sym (ap (sum_by f) p.without ∙ sum-without f p.front p.back))

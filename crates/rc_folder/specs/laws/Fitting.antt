@@ -11,7 +11,7 @@ use Rattle.rc_tfile.specs.declared.info.TableInfo.{TableInfo}
 use Rattle.rc_tfile.specs.TableText.{PartsFit}
 use Rattle.rc_lines.specs.Fits.{CommandFits}
 use Rattle.rc_lines.specs.declared.commands.Command.TheVariants.{Put}
-use Rattle.rc_machine.specs.State.{State, unstored}
+use Rattle.rc_machine.specs.State.{State, unstored_writes}
 use Rattle.rc_machine.specs.Standing.{IsOver}
 use Rattle.rc_machine.specs.laws.FittingParts.{parts_fit}
 
@@ -20,11 +20,11 @@ first_fit : (schema : SchemaValue) (first later : List Write) → All (λ w. Com
 first_fit schema first later all =
     subst (All (λ w. CommandFits schema (Put w))) (take-append_seam first later) (All-take (λ w. CommandFits schema (Put w)) (length first) (first ++ later) all)
 
-pub writes_fit : (told : Option Files) (schema : SchemaValue) (infos : List TableInfo) (m : State) (sealed later : List Write) → IsOver told schema infos m → sealed ++ later ≡ unstored m → All (λ w. CommandFits schema (Put w)) sealed
+pub writes_fit : (told : Option Files) (schema : SchemaValue) (infos : List TableInfo) (m : State) (sealed later : List Write) → IsOver told schema infos m → sealed ++ later ≡ unstored_writes m → All (λ w. CommandFits schema (Put w)) sealed
 writes_fit told schema infos m sealed later over log =
     subst (λ schema. All (λ w. CommandFits schema (Put w)) sealed) over.schema
     (first_fit m.schema sealed later (subst (All (λ w. CommandFits m.schema (Put w))) (sym log) (All-drop (λ w. CommandFits m.schema (Put w)) m.stored m.log over.fit)))
 
-pub sealed_parts_fit : (told : Option Files) (schema : SchemaValue) (infos : List TableInfo) (m : State) (sealed later : List Write) (parts : List Partition) → IsOver told schema infos m → sealed ++ later ≡ unstored m → IsParts parts sealed
+pub sealed_parts_fit : (told : Option Files) (schema : SchemaValue) (infos : List TableInfo) (m : State) (sealed later : List Write) (parts : List Partition) → IsOver told schema infos m → sealed ++ later ≡ unstored_writes m → IsParts parts sealed
     → PartsFit schema parts
 sealed_parts_fit told schema infos m sealed later parts over log are = parts_fit schema parts sealed are (writes_fit told schema infos m sealed later over log)

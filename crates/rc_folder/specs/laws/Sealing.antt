@@ -3,7 +3,7 @@ use Rattle.std.proofs.Common.{◌≡◌, ◌==◌, ℕ, suc, ◌+◌, ◌-◌, �
 use Rattle.std.proofs.lemmas.Bool.Decides.{nat_tests}
 use Rattle.std.proofs.lemmas.List.{length-append, length-drop}
 use Rattle.rc_mutation.specs.declared.mutations.Write.{Write}
-use Rattle.rc_machine.specs.State.{State, unstored}
+use Rattle.rc_machine.specs.State.{State, unstored_writes}
 use Rattle.rc_machine.specs.Steps.{sealing}
 
 pub not_none : (n : ℕ) → (suc n == 0) ≡ false
@@ -21,13 +21,13 @@ all_from : (log rest : List Write) (n : ℕ) → n ≤ length log → rest ≡ d
 all_from log rest n h e = (let count : length rest ≡ length log - n = ap length e ∙ length-drop n log in omega arith)
 
 -- so many writes there are
-pub log_length : (m : State) (sealed active : List Write) → m.stored ≤ length m.log → sealed ++ active ≡ unstored m → length m.log ≡ m.stored + (length sealed + length active)
+pub log_length : (m : State) (sealed active : List Write) → m.stored ≤ length m.log → sealed ++ active ≡ unstored_writes m → length m.log ≡ m.stored + (length sealed + length active)
 log_length m sealed active h log =
     let count : length m.log ≡ m.stored + length (sealed ++ active) = all_from m.log (sealed ++ active) m.stored h log in
     omega (arith, count, length-append sealed active)
 
 -- so many are sealed, once all are unless some are
-pub sealing_is : (m : State) (sealed active : List Write) → m.stored ≤ length m.log → sealed ++ active ≡ unstored m → m.sealed ≡ m.stored + length sealed → sealing m ≡ m.stored + length (if length sealed == 0 then active else sealed)
+pub sealing_is : (m : State) (sealed active : List Write) → m.stored ≤ length m.log → sealed ++ active ≡ unstored_writes m → m.sealed ≡ m.stored + length sealed → sealing m ≡ m.stored + length (if length sealed == 0 then active else sealed)
 sealing_is m [] active h log is =
     let t : (m.stored == m.sealed) ≡ true = grind (arith, nat_tests, is) in
     sealing_at m true t ∙ all_from m.log active m.stored h log

@@ -11,7 +11,7 @@ use Rattle.rc_spelling.specs.Spelling.{bytes_spelled}
 use Rattle.rc_lines.specs.declared.shapes.Bound.{Bound}
 use Rattle.rc_lines.specs.declared.shapes.Stamp.{Stamp}
 use Rattle.rc_lines.specs.declared.shapes.Stamp.TheVariants.{Alive, Gone}
-use Rattle.rc_lines.specs.Parts.{without_front, without_back, stamp_of, time_of, pieces_of, named}
+use Rattle.rc_lines.specs.Parts.{without_front, without_back, stamp_of, time_of, pieces_of, named_cell}
 
 -- a tombstone, `ts=TS dt=DT`
 unfoldable pub tomb_of : List ℕ → List ℕ → Option Tomb
@@ -27,12 +27,12 @@ split_set word = option_map (λ at. (take at word, drop (at + 1) word)) (positio
 
 -- `NAME=VALUE`: the first `=` ends the name
 unfoldable pub set_of : ℤ → List ℕ → Option (List ℕ × Cell)
-set_of ts word = option_and_then (λ parts. named parts.0 (live_of ts parts.1)) (split_set word)
+set_of ts word = option_and_then (λ parts. named_cell parts.0 (live_of ts parts.1)) (split_set word)
 
 -- what a word says of a column: `NAME=VALUE` where its line has a timestamp, and NAME where it has a tombstone
 abbrev pub cell_said : Stamp → List ℕ → Option (List ℕ × Cell)
 cell_said (Alive ts) word = set_of ts word
-cell_said (Gone tomb) word = named word (Some (Dead tomb.ts tomb.dt))
+cell_said (Gone tomb) word = named_cell word (Some (Dead tomb.ts tomb.dt))
 
 -- what each word says of a column
 abbrev pub each_cell_of : Stamp → List (List ℕ) → Option (List (List ℕ × Cell))

@@ -21,20 +21,20 @@ unfoldable pub row_change : List ℕ → Option ℤ → Option Tomb → Option (
 row_change ck marker tomb cells = option_and_then (λ pieces. option_map (λ named. OfRow pieces marker tomb named) cells) (pieces_of ck)
 
 -- `insert KEY CK ts=TS`, then any number of `NAME=VALUE`: a marker and live cells
-unfoldable pub inserted : List ℕ → List ℕ → List (List ℕ) → Option Change
-inserted ck stamp sets = option_and_then (λ ts. row_change ck (Some ts) None (named_cells (Alive ts) sets)) (stamp_of stamp)
+unfoldable pub insert_change : List ℕ → List ℕ → List (List ℕ) → Option Change
+insert_change ck stamp sets = option_and_then (λ ts. row_change ck (Some ts) None (named_cells (Alive ts) sets)) (stamp_of stamp)
 
 -- `update KEY CK ts=TS`, then at least one `NAME=VALUE`: live cells
 unfoldable pub update_change : List ℕ → List ℕ → List (List ℕ) → Option Change
 update_change ck stamp sets = option_and_then (λ ts. row_change ck None None (some_cells_of (Alive ts) sets)) (stamp_of stamp)
 
 -- `unset KEY CK ts=TS dt=DT`, then at least one NAME: dead cells
-unfoldable pub removed : List ℕ → List ℕ → List ℕ → List (List ℕ) → Option Change
-removed ck stamp time names = option_and_then (λ tomb. row_change ck None None (some_cells_of (Gone tomb) names)) (tomb_of stamp time)
+unfoldable pub unset_change : List ℕ → List ℕ → List ℕ → List (List ℕ) → Option Change
+unset_change ck stamp time names = option_and_then (λ tomb. row_change ck None None (some_cells_of (Gone tomb) names)) (tomb_of stamp time)
 
 -- `delete KEY CK ts=TS dt=DT`: a row tombstone
-unfoldable pub deleted : List ℕ → List ℕ → List ℕ → Option Change
-deleted ck stamp time = option_and_then (λ tomb. row_change ck None (Some tomb) (Some [])) (tomb_of stamp time)
+unfoldable pub delete_change : List ℕ → List ℕ → List ℕ → Option Change
+delete_change ck stamp time = option_and_then (λ tomb. row_change ck None (Some tomb) (Some [])) (tomb_of stamp time)
 
 -- `delrange KEY from=FROM to=TO ts=TS dt=DT`: a range tombstone
 unfoldable pub range_deleted : List ℕ → List ℕ → List ℕ → List ℕ → Option Change
@@ -57,7 +57,7 @@ static_removed stamp time names = option_and_then (λ tomb. option_map (λ cells
 abbrev pub insert_of : List (List ℕ) → Option Change
 insert_of [] = None
 insert_of (ck ∷ []) = None
-insert_of (ck ∷ stamp ∷ sets) = inserted ck stamp sets
+insert_of (ck ∷ stamp ∷ sets) = insert_change ck stamp sets
 
 -- `update`, by the words behind KEY
 abbrev pub update_of : List (List ℕ) → Option Change
@@ -70,14 +70,14 @@ abbrev pub unset_of : List (List ℕ) → Option Change
 unset_of [] = None
 unset_of (ck ∷ []) = None
 unset_of (ck ∷ stamp ∷ []) = None
-unset_of (ck ∷ stamp ∷ time ∷ names) = removed ck stamp time names
+unset_of (ck ∷ stamp ∷ time ∷ names) = unset_change ck stamp time names
 
 -- `delete`, by the words behind KEY
 abbrev pub delete_of : List (List ℕ) → Option Change
 delete_of [] = None
 delete_of (ck ∷ []) = None
 delete_of (ck ∷ stamp ∷ []) = None
-delete_of (ck ∷ stamp ∷ time ∷ []) = deleted ck stamp time
+delete_of (ck ∷ stamp ∷ time ∷ []) = delete_change ck stamp time
 delete_of (ck ∷ stamp ∷ time ∷ more ∷ words) = None
 
 -- `delrange`, by the words behind KEY
@@ -156,8 +156,8 @@ bare_of verb =
     else None
 
 -- a command of a word and a number
-unfoldable pub told_of : List ℕ → ℕ → Option Command
-told_of verb n =
+unfoldable pub command_of_number : List ℕ → ℕ → Option Command
+command_of_number verb n =
     if is_word verb (codes "close") then Some (Close n)
     else if is_word verb (codes "evict") then Some (Evict n)
     else if is_word verb (codes "compact") then Some (Compact n)
@@ -169,10 +169,10 @@ abbrev pub begin_of : List ℕ → Option Command
 begin_of word = if is_word word (codes "begin") then Some FlushBegin else None
 
 -- a command of two words: `flush begin`, or with a number from 1 to 4294967295
-unfoldable pub numbered_of : List ℕ → List ℕ → Option Command
-numbered_of verb word =
+unfoldable pub command_of_two_words : List ℕ → List ℕ → Option Command
+command_of_two_words verb word =
     if is_word verb (codes "flush") then begin_of word
-    else option_and_then (told_of verb) (count_of 4294967295 word)
+    else option_and_then (command_of_number verb) (count_of 4294967295 word)
 
 -- `read ID COUNT`
 unfoldable pub read_of : List ℕ → List ℕ → Option Command
@@ -183,8 +183,8 @@ unfoldable pub step_of : List ℕ → List ℕ → Option Command
 step_of word count = if is_word word (codes "step") then option_map (λ n. FlushStep n) (count_of 4294967295 count) else None
 
 -- a command of three words
-unfoldable pub counted_of : List ℕ → List ℕ → List ℕ → Option Command
-counted_of verb one other =
+unfoldable pub command_of_three_words : List ℕ → List ℕ → List ℕ → Option Command
+command_of_three_words verb one other =
     if is_word verb (codes "read") then read_of one other
     else if is_word verb (codes "flush") then step_of one other
     else None
@@ -192,8 +192,8 @@ counted_of verb one other =
 -- a command that is the same under each schema
 abbrev pub plain_of : List ℕ → List (List ℕ) → Option Command
 plain_of verb [] = bare_of verb
-plain_of verb (one ∷ []) = numbered_of verb one
-plain_of verb (one ∷ other ∷ []) = counted_of verb one other
+plain_of verb (one ∷ []) = command_of_two_words verb one
+plain_of verb (one ∷ other ∷ []) = command_of_three_words verb one other
 plain_of verb (one ∷ other ∷ more ∷ words) = None
 
 -- what a line says, by its words

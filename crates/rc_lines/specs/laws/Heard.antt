@@ -17,11 +17,11 @@ use Rattle.rc_rowcode.specs.Spelling.{IsTomb}
 use Rattle.rc_schema.specs.SchemaValue.{is_name}
 use Rattle.rc_spelling.specs.Numbers.{is_numeral, number_of, signed_of, count_of}
 use Rattle.rc_spelling.specs.Printed.{AreBytes}
-use Rattle.rc_spelling.specs.Spelling.{stands_alone, escaped, lone_byte, escape, bytes_spelled, component_spelled, components_spelled}
+use Rattle.rc_spelling.specs.Spelling.{stands_alone, escaped_byte, lone_byte, escape, bytes_spelled, component_spelled, components_spelled}
 use Rattle.rc_lines.specs.declared.shapes.Bound.{Bound}
 use Rattle.rc_lines.specs.declared.shapes.Stamp.{Stamp}
 use Rattle.rc_lines.specs.declared.shapes.Stamp.TheVariants.{Alive, Gone}
-use Rattle.rc_lines.specs.Parts.{without_front, without_back, stamp_of, time_of, key_of, named, pieces_of}
+use Rattle.rc_lines.specs.Parts.{without_front, without_back, stamp_of, time_of, key_of, named_cell, pieces_of}
 use Rattle.rc_lines.specs.calls.ShapeParts.{are_distinct, tomb_of, live_of, split_set, set_of, cell_said, each_cell_of, named_cells, some_cells_of, no_bound, bound_at, marked_bound, from_of, to_of, range_start, range_end}
 use Rattle.rc_spelling.specs.Words.{each_of, is_word}
 use Rattle.rc_lines.specs.Plain.{IsCount}
@@ -80,7 +80,7 @@ digit_small c h = grind (arith, nat_tests)
 abbrev IsByte : ℕ → Type 0
 IsByte byte = byte < 256
 
-escaped_heard : (high low : ℕ) → If IsByte (escaped high low)
+escaped_heard : (high low : ℕ) → If IsByte (escaped_byte high low)
 escaped_heard high low =
     tested IsByte (is_ascii_hexdigit high && is_ascii_hexdigit low) (digit_value high * 16 + digit_value low)
     (λ e. (let halves = both (is_ascii_hexdigit high) (is_ascii_hexdigit low) e in
@@ -93,7 +93,7 @@ alone_heard byte more small h =
 
 escape_heard : (high low : ℕ) (more : Option (List ℕ)) → If AreBytes more → If AreBytes (escape high low more)
 escape_heard high low more h =
-    after AreBytes IsByte (λ byte. option_map (λ bytes. byte ∷ bytes) more) (escaped high low) (escaped_heard high low)
+    after AreBytes IsByte (λ byte. option_map (λ bytes. byte ∷ bytes) more) (escaped_byte high low) (escaped_heard high low)
     (λ byte small. made AreBytes AreBytes (λ bytes. byte ∷ bytes) more h (λ bytes are. (small, are)))
 
 bytes_heard : (word : List ℕ) → AreBytes word → If AreBytes (bytes_spelled word)
@@ -240,8 +240,8 @@ live_heard : (ts : ℤ) (value : List ℕ) → AreBytes value → If (IsStamped 
 unfolding live_of
 live_heard ts value are = made (IsStamped (Alive ts)) AreBytes (λ bytes. Live ts bytes) (bytes_spelled value) (bytes_heard value are) (λ bytes all. (refl, all))
 
-named_heard : (stamp : Stamp) (name : List ℕ) (cell : Option Cell) → If (IsStamped stamp) cell → If (IsOf stamp) (named name cell)
-unfolding named
+named_heard : (stamp : Stamp) (name : List ℕ) (cell : Option Cell) → If (IsStamped stamp) cell → If (IsOf stamp) (named_cell name cell)
+unfolding named_cell
 named_heard stamp name cell h = chosen (IsOf stamp) (is_name name) (option_map (λ c. (name, c)) cell) None (made (IsOf stamp) (IsStamped stamp) (λ c. (name, c)) cell h (λ c is. is)) tt
 
 -- what stands behind the `=` is bytes
@@ -257,7 +257,7 @@ split_heard word are =
 set_heard : (ts : ℤ) (word : List ℕ) → AreBytes word → If (IsOf (Alive ts)) (set_of ts word)
 unfolding set_of
 set_heard ts word are =
-    after (IsOf (Alive ts)) HasValue (λ parts. named parts.0 (live_of ts parts.1)) (split_set word) (split_heard word are)
+    after (IsOf (Alive ts)) HasValue (λ parts. named_cell parts.0 (live_of ts parts.1)) (split_set word) (split_heard word are)
     (λ parts has. named_heard (Alive ts) parts.0 (live_of ts parts.1) (live_heard ts parts.1 has))
 
 cell_heard : (stamp : Stamp) (word : List ℕ) → AreBytes word → If (IsOf stamp) (cell_said stamp word)

@@ -45,8 +45,8 @@ use Rattle.rc_lines.specs.Lines.{pieces_said, cells_said, parts_said, change_sai
 use Rattle.rc_lines.specs.Parts.{without_front, stamp_of, key_of, pieces_of}
 use Rattle.rc_lines.specs.calls.ShapeParts.{tomb_of, named_cells, some_cells_of, no_bound, range_start, range_end}
 use Rattle.rc_lines.specs.Plain.{IsCount}
-use Rattle.rc_lines.specs.Sayable.{stamped, shape_line, IsStamped, IsStampInRange}
-use Rattle.rc_lines.specs.calls.Shapes.{row_change, inserted, update_change, removed, deleted, range_deleted, partition_deleted, static_set, static_removed, insert_of, update_of, unset_of, delete_of, delrange_of, delpart_of, static_change, unstatic_of, cell_change_of, deletion_of, change_of, write_of, open_shape, open_of, bare_of, begin_of, told_of, numbered_of, read_of, step_of, counted_of, plain_of, shape_of}
+use Rattle.rc_lines.specs.Sayable.{cell_stamp, shape_line, IsStamped, IsStampInRange}
+use Rattle.rc_lines.specs.calls.Shapes.{row_change, insert_change, update_change, unset_change, delete_change, range_deleted, partition_deleted, static_set, static_removed, insert_of, update_of, unset_of, delete_of, delrange_of, delpart_of, static_change, unstatic_of, cell_change_of, deletion_of, change_of, write_of, open_shape, open_of, bare_of, begin_of, command_of_number, command_of_two_words, read_of, step_of, command_of_three_words, plain_of, shape_of}
 use Rattle.rc_lines.specs.UnderSchema.{component_of, prefix_of, slice_between, is_partition_key}
 use Rattle.rc_lines.specs.calls.ShapeMeaning.{key_under, is_short_slice, slice_under, cell_named, columns_from, by_column, key_said, slice_said, is_short_change, has_wrong_key, has_unknown_column, is_within, mutation_of, refusal_of, command_of, meaning}
 use Rattle.rc_lines.specs.laws.ByShape.{by_shape}
@@ -92,8 +92,8 @@ row_heard ck marker tomb cells are h =
     after Heard AreAllBytes (λ pieces. option_map (λ named. OfRow pieces marker tomb named) cells) (pieces_of ck) (prefix_heard ck are)
     (λ pieces all. made Heard (HeardRow marker tomb) (λ named. OfRow pieces marker tomb named) cells h (λ named is. (all, is)))
 
-inserted_heard : (ck stamp : List ℕ) (sets : List (List ℕ)) → AreBytes ck → AreAllBytes sets → If Heard (inserted ck stamp sets)
-unfolding inserted
+inserted_heard : (ck stamp : List ℕ) (sets : List (List ℕ)) → AreBytes ck → AreAllBytes sets → If Heard (insert_change ck stamp sets)
+unfolding insert_change
 inserted_heard ck stamp sets are all =
     after Heard IsSigned (λ ts. row_change ck (Some ts) None (named_cells (Alive ts) sets)) (stamp_of stamp) (stamp_heard stamp)
     (λ ts fits. row_heard ck (Some ts) None (named_cells (Alive ts) sets) are (weaker (HeardRow (Some ts) None) (AreOf (Alive ts)) (named_cells (Alive ts) sets) (cells_heard (Alive ts) sets all) (λ cells is. (fits, is))))
@@ -105,15 +105,15 @@ updated_heard ck stamp sets are all =
     (λ ts fits. row_heard ck None None (some_cells_of (Alive ts) sets) are
     (weaker OfOneStamp (AreOf (Alive ts)) (some_cells_of (Alive ts) sets) (some_cells_heard (Alive ts) sets all) (λ cells is. (Alive ts, fits, is))))
 
-removed_heard : (ck stamp time : List ℕ) (names : List (List ℕ)) → AreBytes ck → AreAllBytes names → If Heard (removed ck stamp time names)
-unfolding removed
+removed_heard : (ck stamp time : List ℕ) (names : List (List ℕ)) → AreBytes ck → AreAllBytes names → If Heard (unset_change ck stamp time names)
+unfolding unset_change
 removed_heard ck stamp time names are all =
     after Heard IsTomb (λ tomb. row_change ck None None (some_cells_of (Gone tomb) names)) (tomb_of stamp time) (tomb_heard stamp time)
     (λ tomb fits. row_heard ck None None (some_cells_of (Gone tomb) names) are
     (weaker OfOneStamp (AreOf (Gone tomb)) (some_cells_of (Gone tomb) names) (some_cells_heard (Gone tomb) names all) (λ cells is. (Gone tomb, fits, is))))
 
-deleted_heard : (ck stamp time : List ℕ) → AreBytes ck → If Heard (deleted ck stamp time)
-unfolding deleted
+deleted_heard : (ck stamp time : List ℕ) → AreBytes ck → If Heard (delete_change ck stamp time)
+unfolding delete_change
 deleted_heard ck stamp time are =
     after Heard IsTomb (λ tomb. row_change ck None (Some tomb) (Some [])) (tomb_of stamp time) (tomb_heard stamp time) (λ tomb fits. row_heard ck None (Some tomb) (Some []) are fits)
 
@@ -213,19 +213,19 @@ unfolding bare_of
 bare_heard verb =
     chosen IsPlain (is_word verb (codes "flush")) (Some Flush) _ (tt, λ schema. refl) (chosen IsPlain (is_word verb (codes "stats")) (Some Stats) None (tt, λ schema. refl) tt)
 
-told_heard : (verb : List ℕ) (n : ℕ) → IsCount n → If IsPlain (told_of verb n)
-unfolding told_of
+told_heard : (verb : List ℕ) (n : ℕ) → IsCount n → If IsPlain (command_of_number verb n)
+unfolding command_of_number
 told_heard verb n is =
     chosen IsPlain (is_word verb (codes "close")) (Some (Close n)) _ (is, λ schema. refl)
     (chosen IsPlain (is_word verb (codes "evict")) (Some (Evict n)) _ (is, λ schema. refl)
     (chosen IsPlain (is_word verb (codes "compact")) (Some (Compact n)) _ (is, λ schema. refl)
     (chosen IsPlain (is_word verb (codes "clean")) (Some (Clean n)) None (is, λ schema. refl) tt)))
 
-numbered_heard : (verb word : List ℕ) → If IsPlain (numbered_of verb word)
-unfolding numbered_of
+numbered_heard : (verb word : List ℕ) → If IsPlain (command_of_two_words verb word)
+unfolding command_of_two_words
 numbered_heard verb word =
     chosen IsPlain (is_word verb (codes "flush")) (begin_of word) _ (chosen IsPlain (is_word word (codes "begin")) (Some FlushBegin) None (tt, λ schema. refl) tt)
-    (after IsPlain IsCount (told_of verb) (count_of 4294967295 word) (count_heard word) (told_heard verb))
+    (after IsPlain IsCount (command_of_number verb) (count_of 4294967295 word) (count_heard word) (told_heard verb))
 
 read_heard : (id count : List ℕ) → If IsPlain (read_of id count)
 unfolding read_of
@@ -238,8 +238,8 @@ unfolding step_of
 step_heard word count =
     chosen IsPlain (is_word word (codes "step")) _ None (made IsPlain IsCount (λ n. FlushStep n) (count_of 4294967295 count) (count_heard count) (λ n is. (is, λ schema. refl))) tt
 
-counted_heard : (verb one other : List ℕ) → If IsPlain (counted_of verb one other)
-unfolding counted_of
+counted_heard : (verb one other : List ℕ) → If IsPlain (command_of_three_words verb one other)
+unfolding command_of_three_words
 counted_heard verb one other =
     chosen IsPlain (is_word verb (codes "read")) (read_of one other) _ (read_heard one other)
     (chosen IsPlain (is_word verb (codes "flush")) (step_of one other) None (step_heard one other) tt)
@@ -352,7 +352,7 @@ by_column_heard : (stamp : Stamp) (names : List (List ℕ)) (cells : List (List 
 unfolding by_column
 by_column_heard stamp names cells are = columns_heard stamp 0 names cells are
 
-same_stamp : (stamp : Stamp) (cell : Cell) → IsStamped stamp cell → stamp ≡ stamped cell
+same_stamp : (stamp : Stamp) (cell : Cell) → IsStamped stamp cell → stamp ≡ cell_stamp cell
 same_stamp stamp (Live ts value) is = is.0
 same_stamp stamp (Dead ts dt) is = is
 

@@ -23,14 +23,14 @@ use Rattle.rc_schema.specs.declared.kinds.CkKind.{CkKind}
 use Rattle.rc_schema.specs.declared.kinds.CkKind.TheVariants.{Int, Text}
 use Rattle.rc_schema.specs.SchemaValue.{SchemaValue, is_name, is_name_byte}
 use Rattle.rc_schema.specs.SchemaText.{kind_text, names_text, schema_text}
-use Rattle.rc_spelling.specs.Printed.{IsComponent, bytes_of_component, stands_for_itself, hexadecimal, printed, component_text, spelled_byte}
+use Rattle.rc_spelling.specs.Printed.{IsComponent, bytes_of_component, stands_for_itself, hexadecimal, printed_bytes, component_text, spelled_byte}
 use Rattle.rc_lines.specs.declared.shapes.Change.TheVariants.{OfRow, OfStatic, OfRange, OfPartition}
 use Rattle.rc_lines.specs.declared.shapes.Shape.TheVariants.{Open, Written}
 use Rattle.rc_lines.specs.declared.shapes.Stamp.{Stamp}
 use Rattle.rc_lines.specs.declared.shapes.Stamp.TheVariants.{Alive, Gone}
 use Rattle.rc_lines.specs.Lines.{pieces_said, is_before, start_said, end_said, cells_said, AreComponents, HasOneStamp}
 use Rattle.rc_lines.specs.Plain.{IsCount}
-use Rattle.rc_lines.specs.Sayable.{prefix_word, from_text, to_text, range_words, slice_words, stamp_words, stamped, behind_name, cell_word, cells_words, cells_verb, shape_line, IsStampInRange}
+use Rattle.rc_lines.specs.Sayable.{prefix_word, from_text, to_text, range_words, slice_words, stamp_words, cell_stamp, behind_name, cell_word, cells_words, cells_verb, shape_line, IsStampInRange}
 use Rattle.rc_lines.specs.calls.ShapeMeaning.{are_short, have_short_values}
 use Rattle.rc_lines.specs.laws.Columns.{AreBelow, name_at}
 use Rattle.rc_lines.specs.laws.Halves.{both, up_to}
@@ -72,9 +72,9 @@ byte_short byte =
       | false ↦ omega arith
     ]
 
-pub spelled_short : (bytes : List ℕ) → length (printed bytes) ≤ 3 * length bytes
+pub spelled_short : (bytes : List ℕ) → length (printed_bytes bytes) ≤ 3 * length bytes
 spelled_short [] = omega arith
-spelled_short (byte ∷ bytes) = omega (arith, length-append (spelled_byte byte) (printed bytes), byte_short byte, spelled_short bytes)
+spelled_short (byte ∷ bytes) = omega (arith, length-append (spelled_byte byte) (printed_bytes bytes), byte_short byte, spelled_short bytes)
 
 text_short : (bytes : List ℕ) → length (component_text (comps.Text bytes)) ≤ 3 * length bytes + 2
 text_short [] = omega arith
@@ -151,21 +151,21 @@ cells_short names (e ∷ cells) h below short =
 
 -- ---- the lines
 
-module _ (key line : List ℕ) (key_short : length (printed key) ≤ 192) where
+module _ (key line : List ℕ) (key_short : length (printed_bytes key) ≤ 192) where
   pub partition_short : (tomb : Tomb) → IsTomb tomb → shape_line (Written key (OfPartition tomb)) ≡ Some line → length line ≤ 65536
   partition_short tomb is e =
-      line_short (codes "delpart" ∷ printed key ∷ stamp_words (Gone tomb)) line e (omega (arith, key_short, stamp_short (Gone tomb) is))
+      line_short (codes "delpart" ∷ printed_bytes key ∷ stamp_words (Gone tomb)) line e (omega (arith, key_short, stamp_short (Gone tomb) is))
 
   pub piece_short : (from to : Pos) (tomb : Tomb) → IsShortPrefix from.prefix → IsShortPrefix to.prefix → IsTomb tomb
       → shape_line (Written key (OfRange (start_said from) (end_said to) tomb)) ≡ Some line → length line ≤ 65536
   piece_short from to tomb f t is e =
-      line_short (codes "delrange" ∷ printed key ∷ (range_words (start_said from) (end_said to) ++ stamp_words (Gone tomb))) line e
+      line_short (codes "delrange" ∷ printed_bytes key ∷ (range_words (start_said from) (end_said to) ++ stamp_words (Gone tomb))) line e
       (omega (arith, key_short, range_short from to f t, stamp_short (Gone tomb) is, total_append (range_words (start_said from) (end_said to)) (stamp_words (Gone tomb))))
 
   pub open_short : (id : ℕ) (from to : Pos) → IsCount id → IsShortPrefix from.prefix → IsShortPrefix to.prefix
       → shape_line (Open id key (start_said from) (end_said to)) ≡ Some line → length line ≤ 65536
   open_short id from to n f t e =
-      line_short (codes "open" ∷ decimal id ∷ printed key ∷ slice_words (start_said from) (end_said to)) line e (omega (arith, key_short, count_short id n.1, slice_short from to f t))
+      line_short (codes "open" ∷ decimal id ∷ printed_bytes key ∷ slice_words (start_said from) (end_said to)) line e (omega (arith, key_short, count_short id n.1, slice_short from to f t))
 
   module _ (names : List (List ℕ)) (h : list_all is_name names ≡ true) (few : length names ≤ 32) where
     words_short : (stamp : Stamp) (cells : List (ℕ × Cell)) → AreBelow (length names) cells → have_short_values cells ≡ true → length cells ≤ 32 → IsStampInRange stamp
@@ -176,24 +176,24 @@ module _ (key line : List ℕ) (key_short : length (printed key) ≤ 192) where
     pub row_short : (ck : List Comp) (marker : Option ℤ) (tomb : Option Tomb) (cells : List (ℕ × Cell)) → IsShortPrefix ck → AreBelow (length names) cells → have_short_values cells ≡ true → length cells ≤ 32
         → HasOneStamp marker tomb cells → shape_line (Written key (OfRow (pieces_said ck) marker tomb (cells_said names cells))) ≡ Some line → length line ≤ 65536
     row_short ck (Some ts) None cells p below short count one e =
-        line_short (codes "insert" ∷ printed key ∷ prefix_word (pieces_said ck) ∷ cells_words (Alive ts) (cells_said names cells)) line e
+        line_short (codes "insert" ∷ printed_bytes key ∷ prefix_word (pieces_said ck) ∷ cells_words (Alive ts) (cells_said names cells)) line e
         (omega (arith, key_short, prefix_short ck p.0 p.1.0, p.1.1, words_short (Alive ts) cells below short count one.0))
     row_short ck (Some ts) (Some tomb) cells p below short count one e = absurd (cc)
     row_short ck None (Some tomb) [] p below short count one e =
-        line_short (codes "delete" ∷ printed key ∷ prefix_word (pieces_said ck) ∷ stamp_words (Gone tomb)) line e
+        line_short (codes "delete" ∷ printed_bytes key ∷ prefix_word (pieces_said ck) ∷ stamp_words (Gone tomb)) line e
         (omega (arith, key_short, prefix_short ck p.0 p.1.0, p.1.1, stamp_short (Gone tomb) one))
     row_short ck None (Some tomb) (c ∷ cells) p below short count one e = absurd (cc)
     row_short ck None None [] p below short count one e = absurd (cc)
     row_short ck None None (c ∷ cells) p below short count one e =
-        line_short (cells_verb false (stamped c.1) ∷ printed key ∷ prefix_word (pieces_said ck) ∷ cells_words (stamped c.1) (cells_said names (c ∷ cells))) line e
-        (omega (arith, verb_short false (stamped c.1), key_short, prefix_short ck p.0 p.1.0, p.1.1, words_short (stamped c.1) (c ∷ cells) below short count one.0))
+        line_short (cells_verb false (cell_stamp c.1) ∷ printed_bytes key ∷ prefix_word (pieces_said ck) ∷ cells_words (cell_stamp c.1) (cells_said names (c ∷ cells))) line e
+        (omega (arith, verb_short false (cell_stamp c.1), key_short, prefix_short ck p.0 p.1.0, p.1.1, words_short (cell_stamp c.1) (c ∷ cells) below short count one.0))
 
     pub static_short : (cells : List (ℕ × Cell)) → AreBelow (length names) cells → have_short_values cells ≡ true → length cells ≤ 32
         → HasOneStamp None None cells → shape_line (Written key (OfStatic (cells_said names cells))) ≡ Some line → length line ≤ 65536
     static_short [] below short count one e = absurd (cc)
     static_short (c ∷ cells) below short count one e =
-        line_short (cells_verb true (stamped c.1) ∷ printed key ∷ cells_words (stamped c.1) (cells_said names (c ∷ cells))) line e
-        (omega (arith, verb_short true (stamped c.1), key_short, words_short (stamped c.1) (c ∷ cells) below short count one.0))
+        line_short (cells_verb true (cell_stamp c.1) ∷ printed_bytes key ∷ cells_words (cell_stamp c.1) (cells_said names (c ∷ cells))) line e
+        (omega (arith, verb_short true (cell_stamp c.1), key_short, words_short (cell_stamp c.1) (c ∷ cells) below short count one.0))
 
 -- ---- the line of a schema
 

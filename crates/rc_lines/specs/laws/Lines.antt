@@ -40,7 +40,7 @@ use Rattle.rc_spelling.specs.Words.{is_word}
 use Rattle.rc_schema.specs.laws.SchemaTexts.{text_reads_back}
 use Rattle.rc_schema.specs.SchemaText.{schema_text}
 use Rattle.rc_spelling.specs.laws.Numerals.{signed_back}
-use Rattle.rc_spelling.specs.Printed.{AreBytes, IsComponent, bytes_of_component, printed}
+use Rattle.rc_spelling.specs.Printed.{AreBytes, IsComponent, bytes_of_component, printed_bytes}
 use Rattle.rc_writes.specs.Allowed.{ChangeFits, IsRangeBound, IsRowOf, IsStaticOf}
 use Rattle.rc_writes.specs.laws.OnePlace.{single-place}
 use Rattle.rc_writes.specs.Single.{IsOnePlace, row_alone, static_alone, range_alone, partition_alone}
@@ -57,7 +57,7 @@ use Rattle.rc_lines.specs.Grammar.{longest_line, schema_said, parse}
 use Rattle.rc_lines.specs.calls.ByShape.{line_meaning, parse_by_shape}
 use Rattle.rc_lines.specs.Lines.{pieces_said, is_before, start_said, end_said, cells_said, change_said, command_line, IsPartitionKey, AreComponents, AreStamped, HasOneStamp, IsSayableWrite, IsSayableCommand}
 use Rattle.rc_lines.specs.Parts.{without_front}
-use Rattle.rc_lines.specs.Sayable.{stamped, shape_line, IsSomeKey, IsPrefix, IsLimit, IsStamped, IsNamedCell, AreSayableCells, IsSayable, IsSayableChange}
+use Rattle.rc_lines.specs.Sayable.{cell_stamp, shape_line, IsSomeKey, IsPrefix, IsLimit, IsStamped, IsNamedCell, AreSayableCells, IsSayable, IsSayableChange}
 use Rattle.rc_lines.specs.UnderSchema.{component_of, prefix_of, slice_between, is_partition_key}
 use Rattle.rc_lines.specs.calls.ShapeMeaning.{key_under, are_short, have_short_values, is_short_slice, slice_under, by_column, is_wrong_change, is_unknown_change, is_short_change, rows_said, mutation_of, refusal_of, unless, meaning}
 use Rattle.rc_lines.specs.laws.ByShape.{by_shape}
@@ -301,12 +301,12 @@ row_sayable : (ck : List (List ℕ)) (names : List (List ℕ)) (marker : Option 
 row_sayable ck names (Some ts) tomb row cells p h below e sorted one = (p, cells_sayable (Alive ts) names row cells h below e sorted one)
 row_sayable ck names None (Some tomb) row cells p h below e sorted one = (p, one)
 row_sayable ck names None None row [] p h below e sorted one = tt
-row_sayable ck names None None row (c ∷ cells) p h below e sorted one = (p, cells_sayable (stamped c.1) names row (c ∷ cells) h below e sorted one)
+row_sayable ck names None None row (c ∷ cells) p h below e sorted one = (p, cells_sayable (cell_stamp c.1) names row (c ∷ cells) h below e sorted one)
 
 static_sayable : (names : List (List ℕ)) (row : Row) (cells : List (ℕ × Cell)) → AreNames names → AreBelow (length names) cells → row.cells ≡ cells → IsRow row → HasOneStamp None None cells
     → IsSayableChange (OfStatic (cells_said names cells))
 static_sayable names row [] h below e sorted one = tt
-static_sayable names row (c ∷ cells) h below e sorted one = cells_sayable (stamped c.1) names row (c ∷ cells) h below e sorted one
+static_sayable names row (c ∷ cells) h below e sorted one = cells_sayable (cell_stamp c.1) names row (c ∷ cells) h below e sorted one
 
 key_sayable : (key : List ℕ) → IsPartitionKey key → IsSomeKey key
 key_sayable key is = (is.0, up_to 1 (length key) (both (nat_le 1 (length key)) (nat_le (length key) 64) is.1).0)
@@ -326,7 +326,7 @@ IsBack schema key m = (line : List ℕ) → shape_line (Written key (change_said
     → IsSayable (Written key (change_said schema m)) × ((meaning schema (Written key (change_said schema m)) ≡ Ok (Put (record { key = key; change = m }))) × (length line ≤ 65536))
 
 module _ (schema : SchemaValue) (is : is_schema schema ≡ true) (key : List ℕ) (is_key : IsPartitionKey key) where
-  key_short : length (printed key) ≤ 192
+  key_short : length (printed_bytes key) ≤ 192
   key_short = omega (arith, spelled_short key, up_to (length key) 64 (both (nat_le 1 (length key)) (nat_le (length key) 64) is_key.1).1)
 
   row_back : (ck : List Comp) (row : Row) → ChangeFits schema (row_alone ck row) → IsSayableWrite (row_alone ck row) → IsBack schema key (row_alone ck row)

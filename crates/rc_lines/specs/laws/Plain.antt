@@ -20,7 +20,7 @@ use Rattle.rc_lines.specs.Grammar.{longest_line, is_comment, schema_said, parse}
 use Rattle.rc_lines.specs.calls.ByShape.{shape_meaning, line_meaning, parse_by_shape}
 use Rattle.rc_lines.specs.Parts.{without_front}
 use Rattle.rc_lines.specs.Plain.{HasCounts, IsCount, plain_line}
-use Rattle.rc_lines.specs.calls.Shapes.{shape_of, bare_of, told_of, numbered_of, counted_of, read_of, step_of, write_of}
+use Rattle.rc_lines.specs.calls.Shapes.{shape_of, bare_of, command_of_number, command_of_two_words, command_of_three_words, read_of, step_of, write_of}
 use Rattle.rc_lines.specs.calls.ShapeMeaning.{meaning, refusal_of}
 use Rattle.rc_lines.specs.laws.ByShape.{by_shape}
 use Rattle.rc_lines.specs.laws.Spaces.{number_spaceless}
@@ -63,7 +63,7 @@ module _ (schema : SchemaValue) where
   flush_back = told schema (codes "flush") Flush (omega arith) refl refl refl
 
   begin_back : parse (Some schema) (codes "flush begin") ≡ Ok FlushBegin
-  unfolding schema_said without_front numbered_of
+  unfolding schema_said without_front command_of_two_words
   begin_back = told schema (codes "flush begin") FlushBegin (omega arith) refl refl refl
 
   module _ (n : ℕ) (is : IsCount n) where
@@ -71,35 +71,35 @@ module _ (schema : SchemaValue) where
     few = few_digits n is
 
     close_back : parse (Some schema) (codes "close " ++ decimal n) ≡ Ok (Close n)
-    unfolding schema_said without_front numbered_of told_of
+    unfolding schema_said without_front command_of_two_words command_of_number
     close_back =
         told schema (codes "close " ++ decimal n) (Close n) (let most = few in omega arith) refl refl
         (ap (λ ws. shape_of (codes "close" ∷ ws)) (one_word n is)
-        ∙ ap (λ o. option_or (option_map (λ command. Plain command) (option_and_then (told_of (codes "close")) o)) (write_of (codes "close") (decimal n ∷ []))) (count_back n is.0 is.1))
+        ∙ ap (λ o. option_or (option_map (λ command. Plain command) (option_and_then (command_of_number (codes "close")) o)) (write_of (codes "close") (decimal n ∷ []))) (count_back n is.0 is.1))
 
     evict_back : parse (Some schema) (codes "evict " ++ decimal n) ≡ Ok (Evict n)
-    unfolding schema_said without_front numbered_of told_of
+    unfolding schema_said without_front command_of_two_words command_of_number
     evict_back =
         told schema (codes "evict " ++ decimal n) (Evict n) (let most = few in omega arith) refl refl
         (ap (λ ws. shape_of (codes "evict" ∷ ws)) (one_word n is)
-        ∙ ap (λ o. option_or (option_map (λ command. Plain command) (option_and_then (told_of (codes "evict")) o)) (write_of (codes "evict") (decimal n ∷ []))) (count_back n is.0 is.1))
+        ∙ ap (λ o. option_or (option_map (λ command. Plain command) (option_and_then (command_of_number (codes "evict")) o)) (write_of (codes "evict") (decimal n ∷ []))) (count_back n is.0 is.1))
 
     compact_back : parse (Some schema) (codes "compact " ++ decimal n) ≡ Ok (Compact n)
-    unfolding schema_said without_front numbered_of told_of
+    unfolding schema_said without_front command_of_two_words command_of_number
     compact_back =
         told schema (codes "compact " ++ decimal n) (Compact n) (let most = few in omega arith) refl refl
         (ap (λ ws. shape_of (codes "compact" ∷ ws)) (one_word n is)
-        ∙ ap (λ o. option_or (option_map (λ command. Plain command) (option_and_then (told_of (codes "compact")) o)) (write_of (codes "compact") (decimal n ∷ []))) (count_back n is.0 is.1))
+        ∙ ap (λ o. option_or (option_map (λ command. Plain command) (option_and_then (command_of_number (codes "compact")) o)) (write_of (codes "compact") (decimal n ∷ []))) (count_back n is.0 is.1))
 
     clean_back : parse (Some schema) (codes "clean " ++ decimal n) ≡ Ok (Clean n)
-    unfolding schema_said without_front numbered_of told_of
+    unfolding schema_said without_front command_of_two_words command_of_number
     clean_back =
         told schema (codes "clean " ++ decimal n) (Clean n) (let most = few in omega arith) refl refl
         (ap (λ ws. shape_of (codes "clean" ∷ ws)) (one_word n is)
-        ∙ ap (λ o. option_or (option_map (λ command. Plain command) (option_and_then (told_of (codes "clean")) o)) (write_of (codes "clean") (decimal n ∷ []))) (count_back n is.0 is.1))
+        ∙ ap (λ o. option_or (option_map (λ command. Plain command) (option_and_then (command_of_number (codes "clean")) o)) (write_of (codes "clean") (decimal n ∷ []))) (count_back n is.0 is.1))
 
     step_back : parse (Some schema) (codes "flush step " ++ decimal n) ≡ Ok (FlushStep n)
-    unfolding schema_said without_front counted_of step_of
+    unfolding schema_said without_front command_of_three_words step_of
     step_back =
         told schema (codes "flush step " ++ decimal n) (FlushStep n) (let most = few in omega arith) refl refl
         (ap (λ ws. shape_of (codes "flush" ∷ codes "step" ∷ ws)) (one_word n is)
@@ -114,7 +114,7 @@ module _ (schema : SchemaValue) where
           omega arith
 
       read_back : parse (Some schema) (codes "read " ++ (decimal n ++ 32 ∷ decimal m)) ≡ Ok (Read n m)
-      unfolding schema_said without_front counted_of read_of
+      unfolding schema_said without_front command_of_three_words read_of
       read_back =
           told schema (codes "read " ++ (decimal n ++ 32 ∷ decimal m)) (Read n m) (let most = long_enough in omega arith) refl refl
           (ap (λ ws. shape_of (codes "read" ∷ ws)) (two_words n m is other)

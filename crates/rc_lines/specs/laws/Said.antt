@@ -22,7 +22,7 @@ use Rattle.rc_lines.specs.Fits.{CommandFits}
 use Rattle.rc_lines.specs.Parts.{pieces_of, stamp_of, key_of}
 use Rattle.rc_lines.specs.calls.ShapeParts.{are_distinct, tomb_of, cell_said, each_cell_of, named_cells, some_cells_of, no_bound, range_start, range_end}
 use Rattle.rc_spelling.specs.Words.{is_word}
-use Rattle.rc_lines.specs.calls.Shapes.{row_change, inserted, update_change, removed, deleted, range_deleted, partition_deleted, static_set, static_removed, insert_of, update_of, unset_of, delete_of, delrange_of, delpart_of, static_change, unstatic_of, cell_change_of, deletion_of, change_of, write_of, open_shape, open_of, bare_of, begin_of, told_of, numbered_of, read_of, step_of, counted_of, plain_of, shape_of}
+use Rattle.rc_lines.specs.calls.Shapes.{row_change, insert_change, update_change, unset_change, delete_change, range_deleted, partition_deleted, static_set, static_removed, insert_of, update_of, unset_of, delete_of, delrange_of, delpart_of, static_change, unstatic_of, cell_change_of, deletion_of, change_of, write_of, open_shape, open_of, bare_of, begin_of, command_of_number, command_of_two_words, read_of, step_of, command_of_three_words, plain_of, shape_of}
 
 -- what holds of the value, if there is one
 abbrev pub If : {X : Type 0} → (X → Type 0) → Option X → Type 0
@@ -88,8 +88,8 @@ unfolding named_cells
 some_said stamp [] = tt
 some_said stamp (word ∷ words) = kept (each_cell_of stamp (word ∷ words)) (some_each stamp word words)
 
-inserted_said : (ck stamp : List ℕ) (sets : List (List ℕ)) → If Said (inserted ck stamp sets)
-unfolding inserted
+inserted_said : (ck stamp : List ℕ) (sets : List (List ℕ)) → If Said (insert_change ck stamp sets)
+unfolding insert_change
 inserted_said ck stamp sets =
     and_then Said (λ ts. row_change ck (Some ts) None (named_cells (Alive ts) sets)) (stamp_of stamp)
     (λ ts. row_said ck (Some ts) None (named_cells (Alive ts) sets) (always (λ named. true ≡ true) (named_cells (Alive ts) sets) (λ named. refl)))
@@ -99,13 +99,13 @@ unfolding update_change
 updated_said ck stamp sets =
     and_then Said (λ ts. row_change ck None None (some_cells_of (Alive ts) sets)) (stamp_of stamp) (λ ts. row_said ck None None (some_cells_of (Alive ts) sets) (some_said (Alive ts) sets))
 
-removed_said : (ck stamp time : List ℕ) (names : List (List ℕ)) → If Said (removed ck stamp time names)
-unfolding removed
+removed_said : (ck stamp time : List ℕ) (names : List (List ℕ)) → If Said (unset_change ck stamp time names)
+unfolding unset_change
 removed_said ck stamp time names =
     and_then Said (λ tomb. row_change ck None None (some_cells_of (Gone tomb) names)) (tomb_of stamp time) (λ tomb. row_said ck None None (some_cells_of (Gone tomb) names) (some_said (Gone tomb) names))
 
-deleted_said : (ck stamp time : List ℕ) → If Said (deleted ck stamp time)
-unfolding deleted
+deleted_said : (ck stamp time : List ℕ) → If Said (delete_change ck stamp time)
+unfolding delete_change
 deleted_said ck stamp time = and_then Said (λ tomb. row_change ck None (Some tomb) (Some [])) (tomb_of stamp time) (λ tomb. row_said ck None (Some tomb) (Some []) refl)
 
 range_said : (from to stamp time : List ℕ) → If Said (range_deleted from to stamp time)
@@ -208,19 +208,19 @@ unfolding bare_of
 bare_said verb =
     chosen Harmless (is_word verb (codes "flush")) (Some Flush) _ (λ schema. tt) (chosen Harmless (is_word verb (codes "stats")) (Some Stats) None (λ schema. tt) tt)
 
-told_said : (verb : List ℕ) (n : ℕ) → If Harmless (told_of verb n)
-unfolding told_of
+told_said : (verb : List ℕ) (n : ℕ) → If Harmless (command_of_number verb n)
+unfolding command_of_number
 told_said verb n =
     chosen Harmless (is_word verb (codes "close")) (Some (Close n)) _ (λ schema. tt)
     (chosen Harmless (is_word verb (codes "evict")) (Some (Evict n)) _ (λ schema. tt)
     (chosen Harmless (is_word verb (codes "compact")) (Some (Compact n)) _ (λ schema. tt)
     (chosen Harmless (is_word verb (codes "clean")) (Some (Clean n)) None (λ schema. tt) tt)))
 
-numbered_said : (verb word : List ℕ) → If Harmless (numbered_of verb word)
-unfolding numbered_of
+numbered_said : (verb word : List ℕ) → If Harmless (command_of_two_words verb word)
+unfolding command_of_two_words
 numbered_said verb word =
     chosen Harmless (is_word verb (codes "flush")) (begin_of word) _ (chosen Harmless (is_word word (codes "begin")) (Some FlushBegin) None (λ schema. tt) tt)
-    (and_then Harmless (told_of verb) (count_of 4294967295 word) (told_said verb))
+    (and_then Harmless (command_of_number verb) (count_of 4294967295 word) (told_said verb))
 
 read_said : (id count : List ℕ) → If Harmless (read_of id count)
 unfolding read_of
@@ -233,8 +233,8 @@ unfolding step_of
 step_said word count =
     chosen Harmless (is_word word (codes "step")) _ None (mapped Harmless (λ n. FlushStep n) (count_of 4294967295 count) (always (λ n. Harmless (FlushStep n)) (count_of 4294967295 count) (λ n schema. tt))) tt
 
-counted_said : (verb one other : List ℕ) → If Harmless (counted_of verb one other)
-unfolding counted_of
+counted_said : (verb one other : List ℕ) → If Harmless (command_of_three_words verb one other)
+unfolding command_of_three_words
 counted_said verb one other =
     chosen Harmless (is_word verb (codes "read")) (read_of one other) _ (read_said one other)
     (chosen Harmless (is_word verb (codes "flush")) (step_of one other) None (step_said one other) tt)

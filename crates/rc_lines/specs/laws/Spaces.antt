@@ -15,7 +15,7 @@ use Rattle.std.proofs.lemmas.List.Splits.{slice_split_none, slice_split_at}
 use Rattle.std.proofs.lemmas.Str.Parse.{digit_from_value}
 use Rattle.rc_position.specs.declared.comps.Comp.TheVariants.{Text}
 use Rattle.rc_schema.specs.SchemaValue.{is_name, is_name_byte}
-use Rattle.rc_spelling.specs.Printed.{stands_for_itself, hexadecimal, printed, component_text, spelled_byte}
+use Rattle.rc_spelling.specs.Printed.{stands_for_itself, hexadecimal, printed_bytes, component_text, spelled_byte}
 use Rattle.rc_spelling.specs.Words.{words}
 use Rattle.rc_lines.specs.Sayable.{prefix_word}
 use Rattle.rc_lines.specs.laws.Halves.{both}
@@ -64,9 +64,9 @@ byte_spaceless byte =
       | false ↦ λ e. All-from_recursion (λ x. (x == 32) ≡ false) (37 ∷ hexadecimal (byte / 16) ∷ hexadecimal (byte % 16) ∷ []) (refl, (digit_spaceless (byte / 16), (digit_spaceless (byte % 16), tt)))
     ] refl
 
-pub spelled_spaceless : (bytes : List ℕ) → IsSpaceless (printed bytes)
+pub spelled_spaceless : (bytes : List ℕ) → IsSpaceless (printed_bytes bytes)
 spelled_spaceless [] = All-nil (λ byte. (byte == 32) ≡ false)
-spelled_spaceless (byte ∷ bytes) = All-append (λ x. (x == 32) ≡ false) (spelled_byte byte) (printed bytes) (byte_spaceless byte) (spelled_spaceless bytes)
+spelled_spaceless (byte ∷ bytes) = All-append (λ x. (x == 32) ≡ false) (spelled_byte byte) (printed_bytes bytes) (byte_spaceless byte) (spelled_spaceless bytes)
 
 component_spaceless : (piece : List ℕ) → IsSpaceless (component_text (Text piece))
 component_spaceless [] = All-from_recursion (λ x. (x == 32) ≡ false) (39 ∷ 39 ∷ []) (refl, (refl, tt))

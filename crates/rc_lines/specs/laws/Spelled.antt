@@ -21,11 +21,11 @@ use Rattle.rc_schema.specs.SchemaValue.{is_name}
 use Rattle.rc_spelling.specs.laws.{printed_bytes_read_back, printed_keys_read_back}
 use Rattle.rc_spelling.specs.laws.Numerals.{decimal_number, signed_back}
 use Rattle.rc_spelling.specs.Numbers.{count_of}
-use Rattle.rc_spelling.specs.Printed.{AreBytes, IsComponent, bytes_of_component, printed}
+use Rattle.rc_spelling.specs.Printed.{AreBytes, IsComponent, bytes_of_component, printed_bytes}
 use Rattle.rc_spelling.specs.Spelling.{bytes_spelled, components_spelled}
 use Rattle.rc_lines.specs.declared.shapes.Bound.{Bound}
 use Rattle.rc_lines.specs.declared.shapes.Stamp.{Stamp}
-use Rattle.rc_lines.specs.Parts.{without_front, without_back, stamp_of, time_of, key_of, named, pieces_of}
+use Rattle.rc_lines.specs.Parts.{without_front, without_back, stamp_of, time_of, key_of, named_cell, pieces_of}
 use Rattle.rc_lines.specs.calls.ShapeParts.{are_distinct, tomb_of, live_of, split_set, set_of, cell_said, each_cell_of, named_cells, some_cells_of, no_bound, bound_at, marked_bound, from_of, to_of, range_start, range_end}
 use Rattle.rc_spelling.specs.Words.{is_word}
 use Rattle.rc_lines.specs.Sayable.{prefix_word, from_text, to_text, cell_word, IsSomeKey, IsPrefix, IsLimit, IsBound, IsStamped, IsNamedCell, AreSayableCells}
@@ -55,8 +55,8 @@ some_key [] [] h some = absurd (omega arith)
 some_key [] (byte ∷ key) h some = absurd (cc)
 some_key (byte ∷ word) key h some = h
 
-pub key_back : (key : List ℕ) → IsSomeKey key → key_of (printed key) ≡ Some key
-key_back key is = some_key (printed key) key (printed_bytes_read_back key is.0) is.1
+pub key_back : (key : List ℕ) → IsSomeKey key → key_of (printed_bytes key) ≡ Some key
+key_back key is = some_key (printed_bytes key) key (printed_bytes_read_back key is.0) is.1
 
 texts : (pieces : List (List ℕ)) → AllByRecursion AreBytes pieces → AllByRecursion IsComponent (list_map (λ piece. Text piece) pieces)
 texts [] are = tt
@@ -155,24 +155,24 @@ split_back name rest h =
     ap (λ n. cond (nat_lt n (length (name ++ 61 ∷ rest))) (Some n) None) (mark_at name rest h) ∙ ap (λ b. cond b (Some (length name)) None) within in
     split_at (name ++ 61 ∷ rest) name rest (length name) found (take-append_seam name (61 ∷ rest)) (drop-append-add name (61 ∷ rest) 1)
 
-named_back : (name : List ℕ) (cell : Cell) → is_name name ≡ true → named name (Some cell) ≡ Some (name, cell)
-unfolding named
+named_back : (name : List ℕ) (cell : Cell) → is_name name ≡ true → named_cell name (Some cell) ≡ Some (name, cell)
+unfolding named_cell
 named_back name cell h = ap (λ b. cond b (Some (name, cell)) None) h
 
-live_back : (ts : ℤ) (value : List ℕ) → AreBytes value → live_of ts (printed value) ≡ Some (Live ts value)
+live_back : (ts : ℤ) (value : List ℕ) → AreBytes value → live_of ts (printed_bytes value) ≡ Some (Live ts value)
 unfolding live_of
 live_back ts value are = ap (option_map (λ bytes. Live ts bytes)) (printed_bytes_read_back value are)
 
-set_back : (ts : ℤ) (name value : List ℕ) → is_name name ≡ true → AreBytes value → set_of ts (name ++ 61 ∷ printed value) ≡ Some (name, Live ts value)
+set_back : (ts : ℤ) (name value : List ℕ) → is_name name ≡ true → AreBytes value → set_of ts (name ++ 61 ∷ printed_bytes value) ≡ Some (name, Live ts value)
 unfolding set_of
 set_back ts name value h are =
-    ap (option_and_then (λ parts. named parts.0 (live_of ts parts.1))) (split_back name (printed value) (name_plain name h))
-    ∙ (ap (named name) (live_back ts value are) ∙ named_back name (Live ts value) h)
+    ap (option_and_then (λ parts. named_cell parts.0 (live_of ts parts.1))) (split_back name (printed_bytes value) (name_plain name h))
+    ∙ (ap (named_cell name) (live_back ts value are) ∙ named_back name (Live ts value) h)
 
 cell_back : (stamp : Stamp) (name : List ℕ) (cell : Cell) → is_name name ≡ true → IsStamped stamp cell → cell_said stamp (cell_word (name, cell)) ≡ Some (name, cell)
-cell_back stamp name (Live ts value) h is = ap (λ s. cell_said s (name ++ 61 ∷ printed value)) is.0 ∙ set_back ts name value h is.1
+cell_back stamp name (Live ts value) h is = ap (λ s. cell_said s (name ++ 61 ∷ printed_bytes value)) is.0 ∙ set_back ts name value h is.1
 cell_back stamp name (Dead ts dt) h is =
-    ap (λ s. cell_said s (name ++ [])) is ∙ (ap (λ word. named word (Some (Dead ts dt))) (append-nil name) ∙ named_back name (Dead ts dt) h)
+    ap (λ s. cell_said s (name ++ [])) is ∙ (ap (λ word. named_cell word (Some (Dead ts dt))) (append-nil name) ∙ named_back name (Dead ts dt) h)
 
 both_cells : (one : Option (List ℕ × Cell)) (others : Option (List (List ℕ × Cell))) (cell : List ℕ × Cell) (cells : List (List ℕ × Cell)) → one ≡ Some cell → others ≡ Some cells
     → option_and_then (λ cell. option_map (λ cells. cell ∷ cells) others) one ≡ Some (cell ∷ cells)

@@ -23,7 +23,7 @@ use Rattle.rc_rowcode.specs.Spelling.{IsTomb}
 use Rattle.rc_schema.specs.Checks.{is_key_of}
 use Rattle.rc_schema.specs.SchemaValue.{SchemaValue, is_schema}
 use Rattle.rc_spelling.specs.laws.{plain_values_stay}
-use Rattle.rc_spelling.specs.Printed.{IsComponent, bytes_of_component, printed, component_text, key_text}
+use Rattle.rc_spelling.specs.Printed.{IsComponent, bytes_of_component, printed_bytes, component_text, key_text}
 use Rattle.rc_writes.specs.Allowed.{ChangeFits, IsRangeBound, IsRowOf, IsStaticOf}
 use Rattle.rc_writes.specs.Single.{row_alone, partition_alone}
 use Rattle.rc_lines.specs.declared.commands.Command.TheVariants.{Put}
@@ -46,10 +46,10 @@ digits_stay (c ∷ cs) d =
     let here : is_ascii_alphanumeric c ≡ true = (let within = digit_from_value c d.0 in grind (arith, nat_tests)) in
     rw here (digits_stay cs d.1)
 
-number_stays : (n : ℕ) → n < 2 ^ 64 → printed (decimal n) ≡ decimal n
+number_stays : (n : ℕ) → n < 2 ^ 64 → printed_bytes (decimal n) ≡ decimal n
 number_stays n small = plain_values_stay (decimal n) (digits_stay (decimal n) (decimal_is_IsNumeral n small).0.1)
 
-some_text : (bytes : List ℕ) → 1 ≤ length bytes → component_text (comps.Text bytes) ≡ printed bytes
+some_text : (bytes : List ℕ) → 1 ≤ length bytes → component_text (comps.Text bytes) ≡ printed_bytes bytes
 some_text [] some = absurd (omega arith)
 some_text (byte ∷ bytes) some = refl
 
@@ -100,13 +100,13 @@ live_stamps ts (shown ∷ values) are = ((refl, are.0), live_stamps ts values ar
 -- an insert: a marker and live cells of one timestamp
 pub insert_back : (schema : SchemaValue) (key : List ℕ) (ck : List Comp) (ts : ℤ) (values : List (ℕ × List ℕ)) → is_schema schema ≡ true → IsPartitionKey key → AreComponents ck → FitsSigned w64 ts
     → AreValues values → IsRowOf schema ck (live_row ts values) → IsRow (live_row ts values)
-    → parse (Some schema) (codes "insert " ++ (printed key ++ 32 ∷ (key_text ck ++ (codes " ts=" ++ (signed_decimal ts ++ flat_map (value_text schema.cols) values)))))
+    → parse (Some schema) (codes "insert " ++ (printed_bytes key ++ 32 ∷ (key_text ck ++ (codes " ts=" ++ (signed_decimal ts ++ flat_map (value_text schema.cols) values)))))
     ≡ Ok (Put (record { key = key; change = row_alone ck (live_row ts values) }))
 insert_back schema key ck ts values is is_key comps_are fits_ts are fits sorted =
     row_back schema key ck (live_row ts values) _ is is_key comps_are fits sorted (fits_ts, live_stamps ts values are)
     (ap (λ (line : List ℕ). Some line)
-    (spaced (codes "insert") (printed key ∷ prefix_word (pieces_said ck) ∷ cells_words (Alive ts) (cells_said schema.cols (live_cells ts values)))
-    ∙ (λ i. codes "insert " ++ (printed key ++ 32 ∷ (keys_stay ck comps_are i ++ (codes " ts=" ++ (signed_decimal ts ++ values_stay schema.cols ts values i)))))))
+    (spaced (codes "insert") (printed_bytes key ∷ prefix_word (pieces_said ck) ∷ cells_words (Alive ts) (cells_said schema.cols (live_cells ts values)))
+    ∙ (λ i. codes "insert " ++ (printed_bytes key ++ 32 ∷ (keys_stay ck comps_are i ++ (codes " ts=" ++ (signed_decimal ts ++ values_stay schema.cols ts values i)))))))
 
 -- the tombstone of a row
 pub delete_back : (schema : SchemaValue) (key : List ℕ) (ck : List Comp) (tomb : Tomb) → is_schema schema ≡ true → IsPartitionKey key → AreComponents ck → IsTomb tomb → IsTrue (is_key_of true schema ck)
@@ -114,8 +114,8 @@ pub delete_back : (schema : SchemaValue) (key : List ℕ) (ck : List Comp) (tomb
 delete_back schema key ck tomb is is_key comps_are is_tomb fits =
     row_back schema key ck (dead_row tomb) _ is is_key comps_are (fits, refl) refl is_tomb
     (ap (λ (line : List ℕ). Some line)
-    (spaced (codes "delete") (printed key ∷ prefix_word (pieces_said ck) ∷ stamp_words (Gone tomb))
-    ∙ (λ i. codes "delete " ++ (printed key ++ 32 ∷ (keys_stay ck comps_are i ++ (codes " ts=" ++ (signed_decimal tomb.ts ++ (codes " dt=" ++ append-nil (decimal tomb.dt) i))))))))
+    (spaced (codes "delete") (printed_bytes key ∷ prefix_word (pieces_said ck) ∷ stamp_words (Gone tomb))
+    ∙ (λ i. codes "delete " ++ (printed_bytes key ++ 32 ∷ (keys_stay ck comps_are i ++ (codes " ts=" ++ (signed_decimal tomb.ts ++ (codes " dt=" ++ append-nil (decimal tomb.dt) i))))))))
 
 -- the tombstone of a partition
 pub delpart_back : (schema : SchemaValue) (key : List ℕ) (tomb : Tomb) → is_schema schema ≡ true → IsPartitionKey key → IsTomb tomb
@@ -125,5 +125,5 @@ delpart_back schema key tomb is is_key is_tomb =
     (refl, record { statics = nothing_static schema; rows = All-nil (λ (e : List Comp × Row). IsRowOf schema e.0 e.1); ranges = All-nil (λ (q : Piece). IsRangeBound schema q.from × IsRangeBound schema q.to) })
     (is_key, record { pt = is_tomb; statics = (refl, tt); rows = tt; ranges = tt })
     (ap (λ (line : List ℕ). Some line)
-    (spaced (codes "delpart") (printed key ∷ stamp_words (Gone tomb))
-    ∙ (λ i. codes "delpart " ++ (printed key ++ (codes " ts=" ++ (signed_decimal tomb.ts ++ (codes " dt=" ++ append-nil (decimal tomb.dt) i)))))))
+    (spaced (codes "delpart") (printed_bytes key ∷ stamp_words (Gone tomb))
+    ∙ (λ i. codes "delpart " ++ (printed_bytes key ++ (codes " ts=" ++ (signed_decimal tomb.ts ++ (codes " dt=" ++ append-nil (decimal tomb.dt) i)))))))

@@ -23,10 +23,10 @@ use Rattle.rc_lines.specs.declared.shapes.Shape.TheVariants.{Plain, Open, Writte
 use Rattle.rc_lines.specs.declared.shapes.Stamp.{Stamp}
 use Rattle.rc_lines.specs.declared.shapes.Stamp.TheVariants.{Alive, Gone}
 use Rattle.rc_lines.specs.Forms.{Form, columns_to_end, forms}
-use Rattle.rc_lines.specs.Parts.{without_front, without_back, stamp_of, time_of, key_of, pieces_of, named, cell_set, cell_unset, limit_of, from_limit, to_limit}
+use Rattle.rc_lines.specs.Parts.{without_front, without_back, stamp_of, time_of, key_of, pieces_of, named_cell, cell_set, cell_unset, limit_of, from_limit, to_limit}
 use Rattle.rc_lines.specs.UnderSchema.{Saying, row_written, statics_written, range_written, partition_written, on_slice}
 use Rattle.rc_lines.specs.calls.ShapeParts.{are_distinct, tomb_of, live_of, split_set, set_of, cell_said, each_cell_of, named_cells, some_cells_of, no_bound, bound_at, marked_bound, from_of, to_of, range_start, range_end}
-use Rattle.rc_lines.specs.calls.Shapes.{row_change, inserted, update_change, removed, deleted, range_deleted, partition_deleted, static_set, static_removed, cell_change_of, deletion_of, change_of, write_of, open_shape, open_of, bare_of, told_of, numbered_of, read_of, step_of, counted_of, plain_of, shape_of}
+use Rattle.rc_lines.specs.calls.Shapes.{row_change, insert_change, update_change, unset_change, delete_change, range_deleted, partition_deleted, static_set, static_removed, cell_change_of, deletion_of, change_of, write_of, open_shape, open_of, bare_of, command_of_number, command_of_two_words, read_of, step_of, command_of_three_words, plain_of, shape_of}
 
 -- ---- what a shape says
 
@@ -107,8 +107,8 @@ to_same word = to_behind (without_front (codes "to=") word)
 -- ---- cells
 
 set_at : (ts : ℤ) (word : List ℕ) (o : Option ℕ) →
-    option_and_then (λ at. named (take at word) (option_map (λ value. Live ts value) (bytes_spelled (drop (at + 1) word)))) o
-    ≡ option_and_then (λ (parts : List ℕ × List ℕ). named parts.0 (live_of ts parts.1)) (option_map (λ at. (take at word, drop (at + 1) word)) o)
+    option_and_then (λ at. named_cell (take at word) (option_map (λ value. Live ts value) (bytes_spelled (drop (at + 1) word)))) o
+    ≡ option_and_then (λ (parts : List ℕ × List ℕ). named_cell parts.0 (live_of ts parts.1)) (option_map (λ at. (take at word, drop (at + 1) word)) o)
 unfolding live_of
 set_at ts word None = refl
 set_at ts word (Some at) = refl
@@ -255,22 +255,22 @@ by_cells : (key : List ℕ) (said : Option Saying) (change : Option Change) → 
 by_cells key said change h = or_none said ∙ h ∙ ap (λ c. option_map shape_saying (option_and_then (λ k. option_map (λ change. Written k change) c) (key_of key))) (sym (or_none change))
 
 insert_alike : (rest : List (List ℕ)) → AreAlike (codes "insert") rest
-unfolding forms bare_of numbered_of told_of counted_of cell_change_of deletion_of inserted row_change
+unfolding forms bare_of command_of_two_words command_of_number command_of_three_words cell_change_of deletion_of insert_change row_change
 insert_alike [] = refl
 insert_alike (key ∷ []) =
-    neither _ _ (first_none _ (none_after _ (key_of key) (λ k. refl))) (no_shape (plain_of (codes "insert") (key ∷ [])) key (change_of (codes "insert") []) (none_after (told_of (codes "insert")) (count_of 4294967295 key) (λ n. refl)) refl)
+    neither _ _ (first_none _ (none_after _ (key_of key) (λ k. refl))) (no_shape (plain_of (codes "insert") (key ∷ [])) key (change_of (codes "insert") []) (none_after (command_of_number (codes "insert")) (count_of 4294967295 key) (λ n. refl)) refl)
 insert_alike (key ∷ ck ∷ []) =
     neither _ _ (first_none _ (none_after _ (key_of key) (λ k. none_after _ (pieces_of ck) (λ p. refl)))) (no_shape (plain_of (codes "insert") (key ∷ ck ∷ [])) key (change_of (codes "insert") (ck ∷ [])) refl refl)
 insert_alike (key ∷ ck ∷ stamp ∷ sets) =
-    by_cells key _ (inserted ck stamp sets)
+    by_cells key _ (insert_change ck stamp sets)
     ((λ i. option_and_then (λ k. option_and_then (λ p. option_and_then (λ ts. any_columns (Alive ts) (row_written k p (Some ts) None) sets i) (stamp_of stamp)) (pieces_of ck)) (key_of key))
     ∙ row_read (λ ts. Some ts) (λ ts. None) (λ ts. named_cells (Alive ts) sets) (key_of key) (pieces_of ck) (stamp_of stamp))
 
 update_alike : (rest : List (List ℕ)) → AreAlike (codes "update") rest
-unfolding forms bare_of numbered_of told_of counted_of cell_change_of deletion_of update_change row_change
+unfolding forms bare_of command_of_two_words command_of_number command_of_three_words cell_change_of deletion_of update_change row_change
 update_alike [] = refl
 update_alike (key ∷ []) =
-    neither _ _ (first_none _ (none_after _ (key_of key) (λ k. refl))) (no_shape (plain_of (codes "update") (key ∷ [])) key (change_of (codes "update") []) (none_after (told_of (codes "update")) (count_of 4294967295 key) (λ n. refl)) refl)
+    neither _ _ (first_none _ (none_after _ (key_of key) (λ k. refl))) (no_shape (plain_of (codes "update") (key ∷ [])) key (change_of (codes "update") []) (none_after (command_of_number (codes "update")) (count_of 4294967295 key) (λ n. refl)) refl)
 update_alike (key ∷ ck ∷ []) =
     neither _ _ (first_none _ (none_after _ (key_of key) (λ k. none_after _ (pieces_of ck) (λ p. refl)))) (no_shape (plain_of (codes "update") (key ∷ ck ∷ [])) key (change_of (codes "update") (ck ∷ [])) refl refl)
 update_alike (key ∷ ck ∷ stamp ∷ sets) =
@@ -279,26 +279,26 @@ update_alike (key ∷ ck ∷ stamp ∷ sets) =
     ∙ row_read (λ ts. None) (λ ts. None) (λ ts. some_cells_of (Alive ts) sets) (key_of key) (pieces_of ck) (stamp_of stamp))
 
 unset_alike : (rest : List (List ℕ)) → AreAlike (codes "unset") rest
-unfolding forms bare_of numbered_of told_of counted_of cell_change_of deletion_of removed row_change tomb_of
+unfolding forms bare_of command_of_two_words command_of_number command_of_three_words cell_change_of deletion_of unset_change row_change tomb_of
 unset_alike [] = refl
 unset_alike (key ∷ []) =
-    neither _ _ (first_none _ (none_after _ (key_of key) (λ k. refl))) (no_shape (plain_of (codes "unset") (key ∷ [])) key (change_of (codes "unset") []) (none_after (told_of (codes "unset")) (count_of 4294967295 key) (λ n. refl)) refl)
+    neither _ _ (first_none _ (none_after _ (key_of key) (λ k. refl))) (no_shape (plain_of (codes "unset") (key ∷ [])) key (change_of (codes "unset") []) (none_after (command_of_number (codes "unset")) (count_of 4294967295 key) (λ n. refl)) refl)
 unset_alike (key ∷ ck ∷ []) =
     neither _ _ (first_none _ (none_after _ (key_of key) (λ k. none_after _ (pieces_of ck) (λ p. refl)))) (no_shape (plain_of (codes "unset") (key ∷ ck ∷ [])) key (change_of (codes "unset") (ck ∷ [])) refl refl)
 unset_alike (key ∷ ck ∷ stamp ∷ []) =
     neither _ _ (first_none _ (none_after _ (key_of key) (λ k. none_after _ (pieces_of ck) (λ p. none_after _ (stamp_of stamp) (λ ts. refl)))))
     (no_shape (plain_of (codes "unset") (key ∷ ck ∷ stamp ∷ [])) key (change_of (codes "unset") (ck ∷ stamp ∷ [])) refl refl)
 unset_alike (key ∷ ck ∷ stamp ∷ time ∷ names) =
-    by_cells key _ (removed ck stamp time names)
+    by_cells key _ (unset_change ck stamp time names)
     ((λ i. option_and_then (λ k. option_and_then (λ p. tomb_read (λ dead. columns_to_end 1 (cell_unset dead) (row_written k p None None) names) (stamp_of stamp) (time_of time) i) (pieces_of ck)) (key_of key))
     ∙ (λ i. option_and_then (λ k. option_and_then (λ p. option_and_then (λ dead. some_columns (Gone dead) (row_written k p None None) names i) (tomb_of stamp time)) (pieces_of ck)) (key_of key))
     ∙ row_read (λ dead. None) (λ dead. None) (λ dead. some_cells_of (Gone dead) names) (key_of key) (pieces_of ck) (tomb_of stamp time))
 
 delete_alike : (rest : List (List ℕ)) → AreAlike (codes "delete") rest
-unfolding forms bare_of numbered_of told_of counted_of cell_change_of deletion_of deleted row_change tomb_of
+unfolding forms bare_of command_of_two_words command_of_number command_of_three_words cell_change_of deletion_of delete_change row_change tomb_of
 delete_alike [] = refl
 delete_alike (key ∷ []) =
-    neither _ _ (first_none _ (none_after _ (key_of key) (λ k. refl))) (no_shape (plain_of (codes "delete") (key ∷ [])) key (change_of (codes "delete") []) (none_after (told_of (codes "delete")) (count_of 4294967295 key) (λ n. refl)) refl)
+    neither _ _ (first_none _ (none_after _ (key_of key) (λ k. refl))) (no_shape (plain_of (codes "delete") (key ∷ [])) key (change_of (codes "delete") []) (none_after (command_of_number (codes "delete")) (count_of 4294967295 key) (λ n. refl)) refl)
 delete_alike (key ∷ ck ∷ []) =
     neither _ _ (first_none _ (none_after _ (key_of key) (λ k. none_after _ (pieces_of ck) (λ p. refl)))) (no_shape (plain_of (codes "delete") (key ∷ ck ∷ [])) key (change_of (codes "delete") (ck ∷ [])) refl refl)
 delete_alike (key ∷ ck ∷ stamp ∷ []) =
@@ -313,10 +313,10 @@ delete_alike (key ∷ ck ∷ stamp ∷ time ∷ more ∷ words) =
     (no_shape (plain_of (codes "delete") (key ∷ ck ∷ stamp ∷ time ∷ more ∷ words)) key (change_of (codes "delete") (ck ∷ stamp ∷ time ∷ more ∷ words)) refl refl)
 
 delrange_alike : (rest : List (List ℕ)) → AreAlike (codes "delrange") rest
-unfolding forms bare_of numbered_of told_of counted_of cell_change_of deletion_of range_deleted tomb_of
+unfolding forms bare_of command_of_two_words command_of_number command_of_three_words cell_change_of deletion_of range_deleted tomb_of
 delrange_alike [] = refl
 delrange_alike (key ∷ []) =
-    neither _ _ (first_none _ (none_after _ (key_of key) (λ k. refl))) (no_shape (plain_of (codes "delrange") (key ∷ [])) key (change_of (codes "delrange") []) (none_after (told_of (codes "delrange")) (count_of 4294967295 key) (λ n. refl)) refl)
+    neither _ _ (first_none _ (none_after _ (key_of key) (λ k. refl))) (no_shape (plain_of (codes "delrange") (key ∷ [])) key (change_of (codes "delrange") []) (none_after (command_of_number (codes "delrange")) (count_of 4294967295 key) (λ n. refl)) refl)
 delrange_alike (key ∷ from ∷ []) =
     neither _ _ (first_none _ (none_after _ (key_of key) (λ k. none_after _ (from_limit from) (λ f. refl)))) (no_shape (plain_of (codes "delrange") (key ∷ from ∷ [])) key (change_of (codes "delrange") (from ∷ [])) refl refl)
 delrange_alike (key ∷ from ∷ to ∷ []) =
@@ -334,10 +334,10 @@ delrange_alike (key ∷ from ∷ to ∷ stamp ∷ time ∷ more ∷ words) =
     (no_shape (plain_of (codes "delrange") (key ∷ from ∷ to ∷ stamp ∷ time ∷ more ∷ words)) key (change_of (codes "delrange") (from ∷ to ∷ stamp ∷ time ∷ more ∷ words)) refl refl)
 
 delpart_alike : (rest : List (List ℕ)) → AreAlike (codes "delpart") rest
-unfolding forms bare_of numbered_of told_of counted_of cell_change_of deletion_of partition_deleted tomb_of
+unfolding forms bare_of command_of_two_words command_of_number command_of_three_words cell_change_of deletion_of partition_deleted tomb_of
 delpart_alike [] = refl
 delpart_alike (key ∷ []) =
-    neither _ _ (first_none _ (none_after _ (key_of key) (λ k. refl))) (no_shape (plain_of (codes "delpart") (key ∷ [])) key (change_of (codes "delpart") []) (none_after (told_of (codes "delpart")) (count_of 4294967295 key) (λ n. refl)) refl)
+    neither _ _ (first_none _ (none_after _ (key_of key) (λ k. refl))) (no_shape (plain_of (codes "delpart") (key ∷ [])) key (change_of (codes "delpart") []) (none_after (command_of_number (codes "delpart")) (count_of 4294967295 key) (λ n. refl)) refl)
 delpart_alike (key ∷ stamp ∷ []) =
     neither _ _ (first_none _ (none_after _ (key_of key) (λ k. none_after _ (stamp_of stamp) (λ ts. refl)))) (no_shape (plain_of (codes "delpart") (key ∷ stamp ∷ [])) key (change_of (codes "delpart") (stamp ∷ [])) refl refl)
 delpart_alike (key ∷ stamp ∷ time ∷ []) =
@@ -357,18 +357,18 @@ static_some key stamp sets =
     ∙ statics_read (λ ts. some_cells_of (Alive ts) sets) (key_of key) (stamp_of stamp)
 
 static_alike : (rest : List (List ℕ)) → AreAlike (codes "static") rest
-unfolding forms bare_of numbered_of told_of counted_of cell_change_of deletion_of
+unfolding forms bare_of command_of_two_words command_of_number command_of_three_words cell_change_of deletion_of
 static_alike [] = refl
 static_alike (key ∷ []) =
-    neither _ _ (first_none _ (none_after _ (key_of key) (λ k. refl))) (no_shape (plain_of (codes "static") (key ∷ [])) key (change_of (codes "static") []) (none_after (told_of (codes "static")) (count_of 4294967295 key) (λ n. refl)) refl)
+    neither _ _ (first_none _ (none_after _ (key_of key) (λ k. refl))) (no_shape (plain_of (codes "static") (key ∷ [])) key (change_of (codes "static") []) (none_after (command_of_number (codes "static")) (count_of 4294967295 key) (λ n. refl)) refl)
 static_alike (key ∷ stamp ∷ []) = by_cells key _ (static_set stamp []) (static_some key stamp [])
 static_alike (key ∷ stamp ∷ set ∷ sets) = by_cells key _ (static_set stamp (set ∷ sets)) (static_some key stamp (set ∷ sets))
 
 unstatic_alike : (rest : List (List ℕ)) → AreAlike (codes "unstatic") rest
-unfolding forms bare_of numbered_of told_of counted_of cell_change_of deletion_of static_removed tomb_of
+unfolding forms bare_of command_of_two_words command_of_number command_of_three_words cell_change_of deletion_of static_removed tomb_of
 unstatic_alike [] = refl
 unstatic_alike (key ∷ []) =
-    neither _ _ (first_none _ (none_after _ (key_of key) (λ k. refl))) (no_shape (plain_of (codes "unstatic") (key ∷ [])) key (change_of (codes "unstatic") []) (none_after (told_of (codes "unstatic")) (count_of 4294967295 key) (λ n. refl)) refl)
+    neither _ _ (first_none _ (none_after _ (key_of key) (λ k. refl))) (no_shape (plain_of (codes "unstatic") (key ∷ [])) key (change_of (codes "unstatic") []) (none_after (command_of_number (codes "unstatic")) (count_of 4294967295 key) (λ n. refl)) refl)
 unstatic_alike (key ∷ stamp ∷ []) =
     neither _ _ (first_none _ (none_after _ (key_of key) (λ k. none_after _ (stamp_of stamp) (λ ts. refl)))) (no_shape (plain_of (codes "unstatic") (key ∷ stamp ∷ [])) key (change_of (codes "unstatic") (stamp ∷ [])) refl refl)
 unstatic_alike (key ∷ stamp ∷ time ∷ names) =
@@ -399,12 +399,12 @@ slice_read (Some n) (Some k) (Some f) (Some t) = refl
 two_none : (one other : Option Saying) → one ≡ None → other ≡ None → option_or one (option_or other None) ≡ None
 two_none one other p q = (λ i. option_or (p i) (option_or (q i) None))
 
-one_number : (verb word : List ℕ) (shape : Option Shape) → ((n : ℕ) → told_of verb n ≡ None) → shape ≡ None →
-    option_or (option_map (λ command. Plain command) (option_and_then (told_of verb) (count_of 4294967295 word))) shape ≡ None
-one_number verb word shape h p = λ i. option_or (option_map (λ command. Plain command) (none_after (told_of verb) (count_of 4294967295 word) h i)) (p i)
+one_number : (verb word : List ℕ) (shape : Option Shape) → ((n : ℕ) → command_of_number verb n ≡ None) → shape ≡ None →
+    option_or (option_map (λ command. Plain command) (option_and_then (command_of_number verb) (count_of 4294967295 word))) shape ≡ None
+one_number verb word shape h p = λ i. option_or (option_map (λ command. Plain command) (none_after (command_of_number verb) (count_of 4294967295 word) h i)) (p i)
 
 open_alike : (rest : List (List ℕ)) → AreAlike (codes "open") rest
-unfolding forms bare_of numbered_of told_of counted_of open_shape
+unfolding forms bare_of command_of_two_words command_of_number command_of_three_words open_shape
 open_alike [] = refl
 open_alike (id ∷ []) =
     neither _ _ (two_none _ _ (none_after _ (count_of 4294967295 id) (λ n. refl)) (none_after _ (count_of 4294967295 id) (λ n. refl))) (one_number (codes "open") id None (λ n. refl) refl)
@@ -434,37 +434,37 @@ more_words : (word : List ℕ) → option_or (option_and_then {T = ℕ} {U = Say
 more_words word = neither _ _ (first_none _ (none_after (λ n. None) (count_of 4294967295 word) (λ n. refl))) (none_after (λ k. None) (key_of word) (λ k. refl))
 
 close_alike : (rest : List (List ℕ)) → AreAlike (codes "close") rest
-unfolding forms bare_of numbered_of told_of counted_of cell_change_of deletion_of
+unfolding forms bare_of command_of_two_words command_of_number command_of_three_words cell_change_of deletion_of
 close_alike [] = refl
 close_alike (n ∷ []) = told_read (λ n. Close n) (count_of 4294967295 n) (key_of n)
 close_alike (n ∷ one ∷ []) = more_words n
 close_alike (n ∷ one ∷ more ∷ words) = more_words n
 
 evict_alike : (rest : List (List ℕ)) → AreAlike (codes "evict") rest
-unfolding forms bare_of numbered_of told_of counted_of cell_change_of deletion_of
+unfolding forms bare_of command_of_two_words command_of_number command_of_three_words cell_change_of deletion_of
 evict_alike [] = refl
 evict_alike (n ∷ []) = told_read (λ n. Evict n) (count_of 4294967295 n) (key_of n)
 evict_alike (n ∷ one ∷ []) = more_words n
 evict_alike (n ∷ one ∷ more ∷ words) = more_words n
 
 compact_alike : (rest : List (List ℕ)) → AreAlike (codes "compact") rest
-unfolding forms bare_of numbered_of told_of counted_of cell_change_of deletion_of
+unfolding forms bare_of command_of_two_words command_of_number command_of_three_words cell_change_of deletion_of
 compact_alike [] = refl
 compact_alike (n ∷ []) = told_read (λ n. Compact n) (count_of 4294967295 n) (key_of n)
 compact_alike (n ∷ one ∷ []) = more_words n
 compact_alike (n ∷ one ∷ more ∷ words) = more_words n
 
 clean_alike : (rest : List (List ℕ)) → AreAlike (codes "clean") rest
-unfolding forms bare_of numbered_of told_of counted_of cell_change_of deletion_of
+unfolding forms bare_of command_of_two_words command_of_number command_of_three_words cell_change_of deletion_of
 clean_alike [] = refl
 clean_alike (n ∷ []) = told_read (λ n. Clean n) (count_of 4294967295 n) (key_of n)
 clean_alike (n ∷ one ∷ []) = more_words n
 clean_alike (n ∷ one ∷ more ∷ words) = more_words n
 
 stats_alike : (rest : List (List ℕ)) → AreAlike (codes "stats") rest
-unfolding forms bare_of numbered_of told_of counted_of cell_change_of deletion_of
+unfolding forms bare_of command_of_two_words command_of_number command_of_three_words cell_change_of deletion_of
 stats_alike [] = refl
-stats_alike (one ∷ []) = sym (ap (option_map shape_saying) (no_shape (plain_of (codes "stats") (one ∷ [])) one None (none_after (told_of (codes "stats")) (count_of 4294967295 one) (λ n. refl)) refl))
+stats_alike (one ∷ []) = sym (ap (option_map shape_saying) (no_shape (plain_of (codes "stats") (one ∷ [])) one None (none_after (command_of_number (codes "stats")) (count_of 4294967295 one) (λ n. refl)) refl))
 stats_alike (one ∷ other ∷ []) = sym (ap (option_map shape_saying) (none_after (λ k. None) (key_of one) (λ k. refl)))
 stats_alike (one ∷ other ∷ more ∷ words) = sym (ap (option_map shape_saying) (none_after (λ k. None) (key_of one) (λ k. refl)))
 
@@ -478,10 +478,10 @@ two_read (Some i) None (Some k) = refl
 two_read (Some i) (Some n) key = refl
 
 read_alike : (rest : List (List ℕ)) → AreAlike (codes "read") rest
-unfolding forms bare_of numbered_of told_of counted_of read_of cell_change_of deletion_of
+unfolding forms bare_of command_of_two_words command_of_number command_of_three_words read_of cell_change_of deletion_of
 read_alike [] = refl
 read_alike (id ∷ []) =
-    neither _ _ (first_none _ (none_after _ (count_of 4294967295 id) (λ n. refl))) (no_shape (plain_of (codes "read") (id ∷ [])) id None (none_after (told_of (codes "read")) (count_of 4294967295 id) (λ n. refl)) refl)
+    neither _ _ (first_none _ (none_after _ (count_of 4294967295 id) (λ n. refl))) (no_shape (plain_of (codes "read") (id ∷ [])) id None (none_after (command_of_number (codes "read")) (count_of 4294967295 id) (λ n. refl)) refl)
 read_alike (id ∷ n ∷ []) = two_read (count_of 4294967295 id) (count_of 4294967295 n) (key_of id)
 read_alike (id ∷ n ∷ more ∷ words) =
     neither _ _ (first_none _ (none_after _ (count_of 4294967295 id) (λ i. none_after _ (count_of 4294967295 n) (λ m. refl)))) (none_after (λ k. None) (key_of id) (λ k. refl))
@@ -512,7 +512,7 @@ step_read false false word n None = refl
 step_read false false word n (Some k) = refl
 
 flush_alike : (rest : List (List ℕ)) → AreAlike (codes "flush") rest
-unfolding forms bare_of numbered_of counted_of step_of cell_change_of deletion_of
+unfolding forms bare_of command_of_two_words command_of_three_words step_of cell_change_of deletion_of
 flush_alike [] = refl
 flush_alike (one ∷ []) = begin_read (is_word one (codes "begin")) (is_word one (codes "step")) one (key_of one)
 flush_alike (one ∷ other ∷ []) = step_read (is_word one (codes "begin")) (is_word one (codes "step")) one (count_of 4294967295 other) (key_of one)
@@ -545,8 +545,8 @@ unfolding forms
 no_form verb rest (insert, (update, (unset, (delete, (delrange, (delpart, (static, (unstatic, (opening, (read, (close, (flush, (evict, (compact, (clean, (stats, end)))))))))))))))) =
     rw (insert, update, unset, delete, delrange, delpart, static, unstatic, opening, read, close, flush, evict, compact, clean, stats) refl
 
-told_none : (verb : List ℕ) (n : ℕ) → AreOthers verb verbs → told_of verb n ≡ None
-unfolding told_of
+told_none : (verb : List ℕ) (n : ℕ) → AreOthers verb verbs → command_of_number verb n ≡ None
+unfolding command_of_number
 told_none verb n (insert, (update, (unset, (delete, (delrange, (delpart, (static, (unstatic, (opening, (read, (close, (flush, (evict, (compact, (clean, (stats, end)))))))))))))))) = rw (close, evict, compact, clean) refl
 
 change_none : (verb : List ℕ) (words : List (List ℕ)) → AreOthers verb verbs → change_of verb words ≡ None
@@ -555,9 +555,9 @@ change_none verb words (insert, (update, (unset, (delete, (delrange, (delpart, (
     rw (insert, update, unset, delete, delrange, delpart, static, unstatic) refl
 
 plain_none : (verb : List ℕ) (rest : List (List ℕ)) → AreOthers verb verbs → is_word verb (codes "flush") ≡ false → is_word verb (codes "stats") ≡ false → is_word verb (codes "read") ≡ false → plain_of verb rest ≡ None
-unfolding bare_of numbered_of counted_of
+unfolding bare_of command_of_two_words command_of_three_words
 plain_none verb [] o flush stats read = rw (flush, stats) refl
-plain_none verb (one ∷ []) o flush stats read = rw flush (none_after (told_of verb) (count_of 4294967295 one) (λ n. told_none verb n o))
+plain_none verb (one ∷ []) o flush stats read = rw flush (none_after (command_of_number verb) (count_of 4294967295 one) (λ n. told_none verb n o))
 plain_none verb (one ∷ other ∷ []) o flush stats read = rw (read, flush) refl
 plain_none verb (one ∷ other ∷ more ∷ words) o flush stats read = refl
 

@@ -3,7 +3,7 @@
 --     IsFilledThrough    any number of fills through a snapshot
 --     LeavesBut          all else is left but for one snapshot that is there then
 use Rattle.std.specs.Prelude.{◌≡◌, ◌⊎◌, ◌≤◌, ℕ, Contains, IsTrue, Some, None, length}
-use Rattle.rc_core.specs.Chain.{flagged}
+use Rattle.rc_core.specs.Chain.{has_flag}
 use Rattle.rc_core.specs.Continuity.{static_states}
 use Rattle.rc_core.specs.declared.entries.ChainKind.TheVariants.{Cache, Memtable}
 use Rattle.rc_registry.specs.Registry.{IsNumberIn}
@@ -21,7 +21,7 @@ use Rattle.rc_lookup.specs.Rest.{LeavesRest}
 
 -- the static row is known to a snapshot
 abbrev pub KnowsStaticRow : Memory → Snap → Type 0
-KnowsStaticRow m s = IsTrue (flagged (kind_seen m s) (static_states (versions_seen m s)))
+KnowsStaticRow m s = IsTrue (has_flag (kind_seen m s) (static_states (versions_seen m s)))
 
 -- Any number of fills through a snapshot. All else is left; each chain is there still and used as before, or it is gone and its number is to be told, and none came to be. Where nothing was lost, a static row that was known still is, nothing went out of the recency list, and each other chain is as it was.
 pub record IsFilledThrough (S : ℕ) (s : Snap) (old new : Memory) : Type 0 where

@@ -1,9 +1,9 @@
 -- How what fragments say is filled, one after another.
---     past, SaysUpTo    the place behind a fragment, and that writes say what it says up to there
---     SaysAll           so of several, and nothing behind them
---     IsFit, AllFit     the keys of fragments are within the limits
---     IsFilledBy        what fills keep, and what they make known
---     IsFilling         how far fragments are filled
+--     past, SaysUpToFragment    the place behind a fragment, and that writes say what it says up to there
+--     SaysAll                   so of several, and nothing behind them
+--     IsFit, FragmentsFit       the keys of fragments are within the limits
+--     IsFilledBy                what fills keep, and what they make known
+--     IsFilling                 how far fragments are filled
 use Rattle.std.specs.Prelude.{◌≢◌, ◌≤◌, ⊤, List, [], ◌∷◌, Option, None}
 use Rattle.rc_cell.specs.declared.writes.Tomb.{Tomb}
 use Rattle.rc_cell.specs.Winner.{empty_row}
@@ -35,30 +35,30 @@ abbrev pub SaysNone : List Mutation → Pos → Pos → Option Tomb → Type 0
 SaysNone writes x y tomb = Throughout x y (λ z. SayThere writes z (empty_row, tomb))
 
 -- from a place on writes say no row and this tombstone up to a fragment, and its row, if it is one
-abbrev pub SaysUpTo : List Mutation → Pos → Option Tomb → Frag → Type 0
-SaysUpTo writes x tomb (frag.Start pt) = ⊤
-SaysUpTo writes x tomb (frag.Static row) = ⊤
-SaysUpTo writes x tomb (frag.Row key row) = SaysNone writes x (row_pos key) tomb × SayThere writes (row_pos key) (row, tomb)
-SaysUpTo writes x tomb (frag.Change from next) = SaysNone writes x from tomb
-SaysUpTo writes x tomb frag.End = ⊤
+abbrev pub SaysUpToFragment : List Mutation → Pos → Option Tomb → Frag → Type 0
+SaysUpToFragment writes x tomb (frag.Start pt) = ⊤
+SaysUpToFragment writes x tomb (frag.Static row) = ⊤
+SaysUpToFragment writes x tomb (frag.Row key row) = SaysNone writes x (row_pos key) tomb × SayThere writes (row_pos key) (row, tomb)
+SaysUpToFragment writes x tomb (frag.Change from next) = SaysNone writes x from tomb
+SaysUpToFragment writes x tomb frag.End = ⊤
 
 -- so of each of several fragments, and behind them no row
 abbrev pub SaysAll : List Mutation → Pos → Option Tomb → List Frag → Type 0
 SaysAll writes x tomb [] = SaysNone writes x end_position tomb
-SaysAll writes x tomb (f ∷ fs) = SaysUpTo writes x tomb f × SaysAll writes (past x f) (tomb_after tomb f) fs
+SaysAll writes x tomb (f ∷ fs) = SaysUpToFragment writes x tomb f × SaysAll writes (past x f) (tomb_after tomb f) fs
 
 -- a row is not empty
-abbrev pub IsWritten : Frag → Type 0
-IsWritten (frag.Start pt) = ⊤
-IsWritten (frag.Static row) = ⊤
-IsWritten (frag.Row key row) = row ≢ empty_row
-IsWritten (frag.Change from tomb) = ⊤
-IsWritten frag.End = ⊤
+abbrev pub IsNotEmptyRow : Frag → Type 0
+IsNotEmptyRow (frag.Start pt) = ⊤
+IsNotEmptyRow (frag.Static row) = ⊤
+IsNotEmptyRow (frag.Row key row) = row ≢ empty_row
+IsNotEmptyRow (frag.Change from tomb) = ⊤
+IsNotEmptyRow frag.End = ⊤
 
 -- no row is
-abbrev pub AllWritten : List Frag → Type 0
-AllWritten [] = ⊤
-AllWritten (f ∷ fs) = IsWritten f × AllWritten fs
+abbrev pub NoEmptyRows : List Frag → Type 0
+NoEmptyRows [] = ⊤
+NoEmptyRows (f ∷ fs) = IsNotEmptyRow f × NoEmptyRows fs
 
 -- the key of a row is within the limits, and so is that at which a change stands
 abbrev pub IsFit : Frag → Type 0
@@ -69,9 +69,9 @@ IsFit (frag.Change from tomb) = KeyFits from.prefix
 IsFit frag.End = ⊤
 
 -- so of each of several
-abbrev pub AllFit : List Frag → Type 0
-AllFit [] = ⊤
-AllFit (f ∷ fs) = IsFit f × AllFit fs
+abbrev pub FragmentsFit : List Frag → Type 0
+FragmentsFit [] = ⊤
+FragmentsFit (f ∷ fs) = IsFit f × FragmentsFit fs
 
 -- one fill
 abbrev pub OneFill : {P H : Type 0} → OfFiller P H → P × H → P × H → Type 0
@@ -90,4 +90,4 @@ pub record IsFilling {P H : Type 0} (fi : OfFiller P H) (all : List Frag) (p : P
   pub filled : IsFilledBy fi p h q g
   pub known : Unlost (fi.may p h) (fi.lost h) (fi.lost g) (IsKnownOver (fi.knows q g) first_position at)
   pub stands : (writes : List Mutation) → fi.stands p h writes → SaysAll writes first_position None all → fi.stands q g writes × SaysAll writes at tomb left
-  pub written : AllWritten left
+  pub written : NoEmptyRows left

@@ -1,7 +1,7 @@
 -- How the objects of a chain go to the back of the recency list, one after another.
---     IsFrom, IsEntryFrom    a place is of a version of a number or of a newer one; in the version itself that of any object, or of an entry
---     IsTurned               an object went to the back of the list, if it was in it
---     IsRaising              all objects of a chain but those at some places went there
+--     IsOfVersionOrNewer, IsEntryOfVersionOrNewer    a place is of a version of a number or of a newer one; in the version itself that of any object, or of an entry
+--     IsTurnedAlone                                  an object went to the back of the list, if it was in it
+--     IsRaising                                      all objects of a chain but those at some places went there
 use Rattle.std.specs.Prelude.{◌≡◌, ◌⊎◌, ◌<◌, ◌≤◌, ℕ, List, [], ◌∷◌, ◌++◌, IsSome, filter, Contains}
 use Rattle.lsa_region.specs.Region.{SameObjects}
 use Rattle.rc_memory.specs.Changes.{Nowhere, StandStill}
@@ -9,19 +9,19 @@ use Rattle.rc_memory.specs.Memory.{Member, Memory, listed_as}
 use Rattle.rc_lookup.specs.Touched.{is_beside}
 
 -- a place is of the version of a number, or of a newer one
-abbrev pub IsFrom : ℕ → Member → Type 0
-IsFrom number w = number ≤ w.version
+abbrev pub IsOfVersionOrNewer : ℕ → Member → Type 0
+IsOfVersionOrNewer number w = number ≤ w.version
 
 -- it is that of an entry of the version, or of a newer one
-abbrev pub IsEntryFrom : ℕ → Member → Type 0
-IsEntryFrom number w = (number < w.version) ⊎ ((w.version ≡ number) × IsSome w.position)
+abbrev pub IsEntryOfVersionOrNewer : ℕ → Member → Type 0
+IsEntryOfVersionOrNewer number w = (number < w.version) ⊎ ((w.version ≡ number) × IsSome w.position)
 
 -- an object was not in the list, or went to its back
 abbrev pub IsTurnedIn : Member → List Member → List Member → Type 0
 IsTurnedIn w old new = ((Contains old w → ⊥) × (new ≡ old)) ⊎ (Contains old w × ((front back : List Member) → old ≡ front ++ (w ∷ back) → new ≡ (front ++ back) ++ (w ∷ [])))
 
 -- so it is; nothing else changed
-pub record IsTurned (w : Member) (old new : Memory) : Type 0 where
+pub record IsTurnedAlone (w : Member) (old new : Memory) : Type 0 where
   pub recency : IsTurnedIn w old.recency new.recency
   pub same : new ≡ listed_as new.recency new.region old
   pub objects : SameObjects old.region new.region

@@ -12,9 +12,9 @@ use Rattle.rc_tfile.specs.Before.{text}
 use Rattle.rc_tfile.specs.TableText.{whole_table, IsTable}
 use Rattle.rc_lines.specs.declared.commands.Command.{Command}
 use Rattle.rc_lines.specs.declared.commands.Reply.{Reply}
-use Rattle.rc_machine.specs.State.{State, Table, numbers, unstored}
+use Rattle.rc_machine.specs.State.{State, Table, numbers, unstored_writes}
 use Rattle.rc_machine.specs.Steps.{AfterSteps, IsFlushed, with_table, without_sealed, sealing, next_number}
-use Rattle.rc_machine.specs.Flushed.{Flush, IsFlushOf, HasFlushed, AreNext, tables_of, writes_of, files_with, in_tables, accepted, accepted_by}
+use Rattle.rc_machine.specs.Flushed.{Flush, IsFlushOf, HasFlushed, AreNext, tables_of, writes_of, files_with, in_tables, writes_of_steps, accepted_by}
 use Rattle.rc_machine.specs.laws.Changes.{Change, Reads, Writes, Seals, Begins, Stored, Goes, Ends, change_of}
 
 -- the first writes, and then the next of those behind them
@@ -63,7 +63,7 @@ sealing_within m stored sealed = either (m.stored == m.sealed)
 module _ (first m : State) (flushes : List Flush) (h : HasFlushed first m flushes) (parts : List Partition) (is : IsFlushed m parts) (idle : m.written ≡ false) where
   -- the writes that are sealed, or would be
   abbrev to_flush : List Write
-  to_flush = take (sealing m - m.stored) (unstored m)
+  to_flush = take (sealing m - m.stored) (unstored_writes m)
 
   flush : Flush
   flush = ((next_number (numbers m.tables), parts), to_flush)
@@ -212,10 +212,10 @@ holds_at_first m none stored sealed = record {
     same (Some files) = refl
 
 pub holds_after : (first m : State) (steps : List (Command × Reply)) (new : State) (flushes : List Flush) → HasFlushed first m flushes → AfterSteps m steps new
-    → ((more : List Flush) × HasFlushed first new more) × (new.log ≡ m.log ++ accepted steps)
+    → ((more : List Flush) × HasFlushed first new more) × (new.log ≡ m.log ++ writes_of_steps steps)
 holds_after first m [] new flushes h a = (subst (λ x. (more : List Flush) × HasFlushed first x more) (sym a) (flushes, h), ap (λ (x : State). x.log) a ∙ sym (append-nil m.log))
 holds_after first m (step ∷ steps) new flushes h a =
     let change = change_of m step.0 step.1 a.0 a.1 in
     let next = holds_on first m step.0 step.1 a.0 flushes h change in
     let rest = holds_after first a.0 steps new next.0 next.1 a.2 in
-    (rest.0, rest.1 ∙ ap (λ ws. ws ++ accepted steps) (grows m step.0 step.1 a.0 change) ∙ append_assoc m.log (accepted_by step.0 step.1) (accepted steps))
+    (rest.0, rest.1 ∙ ap (λ ws. ws ++ writes_of_steps steps) (grows m step.0 step.1 a.0 change) ∙ append_assoc m.log (accepted_by step.0 step.1) (writes_of_steps steps))

@@ -20,13 +20,13 @@ use Rattle.rc_partition.specs.Versions.{IsUnlisted, IsVersionOf}
 use Rattle.rc_partition.specs.Partitions.{AreStanding, PartitionEntry, StandingVersion, among, partition_of, standing}
 use Rattle.rc_partition.specs.laws.Lists.{elem-first, elem-later, elem-still}
 use Rattle.rc_registry.specs.declared.uses.Use.{Use}
-use Rattle.rc_registry.specs.Registry.{Registry, detached, new_use, on_use, put, set_updating, with_use, without_version}
+use Rattle.rc_registry.specs.Registry.{Registry, detached_use, new_use, on_use, put_at_number, set_updating, with_use, without_version}
 use Rattle.rc_memory.specs.declared.counts.Counts.{Counts}
-use Rattle.rc_memory.specs.Memory.{KeptChain, Member, Memory, HasChain, IsVersionAt, chain_at, chain_detached, chain_made, closed, empty_chain, fewer_versions, more_versions, on_chain, on_shown, opened, partition_without, renumbered_member, shown_detached, shown_updating, shown_with, shown_without, update_begun, update_ended, with_chains}
+use Rattle.rc_memory.specs.Memory.{KeptChain, Member, Memory, HasChain, IsVersionAt, chain_at, chain_detached, chain_made, without_chain, empty_chain, fewer_versions, more_versions, on_chain, on_shown, with_new_chain, partition_without, renumbered_member, shown_detached, shown_updating, shown_with, shown_without, update_begun, update_ended, with_chains}
 use Rattle.rc_memory.specs.Recency.{MayBeListed}
 use Rattle.rc_memory.specs.Room.{FitTogether}
 use Rattle.rc_memory.specs.Kept.{HoldMemory, IsMemory, IsSoundChain, chain_of_use}
-use Rattle.rc_memory.specs.Changes.{CanDrop, LastIsListed, NothingListed, member}
+use Rattle.rc_memory.specs.Changes.{CanDrop, LastIsListed, NothingListed, member_at}
 use Rattle.rc_memory.specs.laws.At.{no-use, number-low, number-mapped}
 use Rattle.rc_memory.specs.laws.Dropped.{renumbered-other, rule-fewer}
 use Rattle.rc_memory.specs.laws.Listing.{rule-settled}
@@ -41,7 +41,7 @@ use Rattle.rc_memory.specs.laws.Versions.{all-but-is, held-added, held-dropped}
 -- ---- lists
 
 -- what is put at a number last stands there
-put-put : {X : Type 0} (xs : List (Option X)) (n : ℕ) (a b : Option X) → put n a (put n b xs) ≡ put n a xs
+put-put : {X : Type 0} (xs : List (Option X)) (n : ℕ) (a b : Option X) → put_at_number n a (put_at_number n b xs) ≡ put_at_number n a xs
 put-put [] zero a b = refl
 put-put [] (suc n) a b = ap (λ l. None ∷ l) (put-put [] n a b)
 put-put (x ∷ xs) zero a b = refl
@@ -53,8 +53,8 @@ mapped-twice f g (Some x) = refl
 
 -- two things done to a chain
 on-on : (cs : List (Option KeptChain)) (id : ℕ) (f g : KeptChain → KeptChain) → on_chain id g (on_chain id f cs) ≡ on_chain id (λ k. g (f k)) cs
-on-on cs id f g = ap (λ o. put id (option_map g o) (put id (option_map f (slice_index_or cs id None)) cs)) (put-at cs id (option_map f (slice_index_or cs id None)))
-    ∙ put-put cs id (option_map g (option_map f (slice_index_or cs id None))) (option_map f (slice_index_or cs id None)) ∙ ap (λ o. put id o cs) (mapped-twice f g (slice_index_or cs id None))
+on-on cs id f g = ap (λ o. put_at_number id (option_map g o) (put_at_number id (option_map f (slice_index_or cs id None)) cs)) (put-at cs id (option_map f (slice_index_or cs id None)))
+    ∙ put-put cs id (option_map g (option_map f (slice_index_or cs id None))) (option_map f (slice_index_or cs id None)) ∙ ap (λ o. put_at_number id o cs) (mapped-twice f g (slice_index_or cs id None))
 
 still-mapped : (g : Member → Member) (ws : List Member) → ((w : Member) → Contains ws w → g w ≡ w) → map g ws ≡ ws
 still-mapped g [] same = refl
@@ -122,8 +122,8 @@ module _ (S : ℕ) (slots : Slots) (old mid new : View) (registry : Registry) (c
   abbrev made : KeptChain
   made = on_shown (λ c. shown_with (c.versions ++ (version_of flag pt phase ∷ [])) c) (empty_chain kind)
 
-  made-chains : on_chain id (on_shown (λ c. shown_with (c.versions ++ (version_of flag pt phase ∷ [])) c)) (put id (Some (empty_chain kind)) m.chains) ≡ put id (Some made) m.chains
-  made-chains = ap (λ o. put id (option_map (on_shown (λ c. shown_with (c.versions ++ (version_of flag pt phase ∷ [])) c)) o) (put id (Some (empty_chain kind)) m.chains)) (put-at m.chains id (Some (empty_chain kind)))
+  made-chains : on_chain id (on_shown (λ c. shown_with (c.versions ++ (version_of flag pt phase ∷ [])) c)) (put_at_number id (Some (empty_chain kind)) m.chains) ≡ put_at_number id (Some made) m.chains
+  made-chains = ap (λ o. put_at_number id (option_map (on_shown (λ c. shown_with (c.versions ++ (version_of flag pt phase ∷ [])) c)) o) (put_at_number id (Some (empty_chain kind)) m.chains)) (put-at m.chains id (Some (empty_chain kind)))
       ∙ put-put m.chains id (Some made) (Some (empty_chain kind))
 
   made-sound : IsSoundChain made.chain
@@ -132,7 +132,7 @@ module _ (S : ℕ) (slots : Slots) (old mid new : View) (registry : Registry) (c
   pub memory-made : (end : Ref) × IsMemory S slots new (with_use id (Some (new_use root kind)) registry) counts (chain_made id root kind (standing n (end ∷ []) (version_of flag pt phase)) new m) × IsUnlisted new end
   memory-made =
       let first = held-opened slots old mid registry counts m h.held rooted.links same well_mid id root kind rooted (no-use registry.uses m.standing m.chains id h.held.kept none) in
-      let k = held-added slots mid new (with_use id (Some (new_use root kind)) registry) counts (opened id root kind mid m) first well same_slots id (partition_of root []) (put-at m.standing id (Some (partition_of root []))) n (version_of flag pt phase) added statics in (
+      let k = held-added slots mid new (with_use id (Some (new_use root kind)) registry) counts (with_new_chain id root kind mid m) first well same_slots id (partition_of root []) (put-at m.standing id (Some (partition_of root []))) n (version_of flag pt phase) added statics in (
         k.0,
         record {
           held = k.1;
@@ -160,8 +160,8 @@ module _ (S : ℕ) (slots : Slots) (v : View) (registry : Registry) (counts : Co
   pub memory-ended : IsMemory S slots v (on_use id (set_updating false) registry) counts (update_ended id m)
   memory-ended = memory-over (set_updating false) (on_shown (shown_updating false)) (λ u. refl) (λ u p. refl) (λ k. (refl, refl, refl)) (λ k s. sound-settled k.chain s)
 
-  pub memory-detached : IsMemory S slots v (on_use id detached registry) counts (chain_detached id m)
-  memory-detached = memory-over detached (on_shown shown_detached) (λ u. refl) (λ u p. refl) (λ k. (refl, refl, refl)) (λ k s. sound-detached k.chain s)
+  pub memory-detached : IsMemory S slots v (on_use id detached_use registry) counts (chain_detached id m)
+  memory-detached = memory-over detached_use (on_shown shown_detached) (λ u. refl) (λ u p. refl) (λ k. (refl, refl, refl)) (λ k s. sound-detached k.chain s)
 
 -- ---- a version dropped
 
@@ -203,12 +203,12 @@ module _ (S : ℕ) (slots : Slots) (old mid new : View) (registry : Registry) (c
   used_so = used-at registry.uses m.standing m.chains id (partition_of root (s ∷ [])) h.held.kept there
 
   -- nothing of the chain is listed
-  none-of : (j : ℕ) (at : Option Pos) → Contains m.recency (member id j at) → ⊥
+  none-of : (j : ℕ) (at : Option Pos) → Contains m.recency (member_at id j at) → ⊥
   none-of j at on =
-      let p = at_there (λ k. MayBeListed k.chain j at) (chain_at m id) (chain_of_use used_so.used (partition_of root (s ∷ []))) (h.rule.members (member id j at) on) used_so.chain in
+      let p = at_there (λ k. MayBeListed k.chain j at) (chain_at m id) (chain_of_use used_so.used (partition_of root (s ∷ []))) (h.rule.members (member_at id j at) on) used_so.chain in
       zero_only j (number-low (s.version ∷ []) j p.version p.number) on
     where
-      zero_only : (i : ℕ) → i < 1 → Contains m.recency (member id i at) → ⊥
+      zero_only : (i : ℕ) → i < 1 → Contains m.recency (member_at id i at) → ⊥
       zero_only zero low k = free at k
       zero_only (suc i) low k = absurd (omega (arith, low))
 
@@ -218,21 +218,21 @@ module _ (S : ℕ) (slots : Slots) (old mid new : View) (registry : Registry) (c
   bare : slice_index_or (fewer_versions id 0 mid m).standing id None ≡ Some (partition_of root [])
   bare = put-at m.standing id (option_map (partition_without 0) (slice_index_or m.standing id None)) ∙ ap (option_map (partition_without 0)) there
 
-  held-gone : HoldMemory slots new (record { uses = put id None registry.uses; dropped = registry.dropped ++ (id ∷ []) }) counts (closed id new m)
+  held-gone : HoldMemory slots new (record { uses = put_at_number id None registry.uses; dropped = registry.dropped ++ (id ∷ []) }) counts (without_chain id new m)
   held-gone =
       let first = held-dropped slots old mid registry counts m h.held well_mid same_slots id (partition_of root (s ∷ [])) there 0 s (record { older = []; newer = []; split = refl; number = refl }) dropped statics in
       let second = held-closed slots mid new (on_use id (without_version 0) registry) counts (fewer_versions id 0 mid m) first gone.links same well id root gone bare in
       let uses = put-put registry.uses id None (option_map (without_version 0) (slice_index_or registry.uses id None)) in
       let chains = put-put m.chains id None (option_map (on_shown (shown_without 0)) (slice_index_or m.chains id None)) in
       let standing_so = put-put m.standing id None (option_map (partition_without 0) (slice_index_or m.standing id None)) in
-      subst (λ (us : List (Option Use)). HoldMemory slots new (record { uses = us; dropped = registry.dropped ++ (id ∷ []) }) counts (closed id new m)) uses
-      (subst (λ k. HoldMemory slots new (record { uses = put id None (on_use id (without_version 0) registry).uses; dropped = registry.dropped ++ (id ∷ []) }) counts k)
+      subst (λ (us : List (Option Use)). HoldMemory slots new (record { uses = us; dropped = registry.dropped ++ (id ∷ []) }) counts (without_chain id new m)) uses
+      (subst (λ k. HoldMemory slots new (record { uses = put_at_number id None (on_use id (without_version 0) registry).uses; dropped = registry.dropped ++ (id ∷ []) }) counts k)
       (λ i. record { chains = chains i; recency = still i; dropped = m.dropped ++ (id ∷ []); counts = m.counts; region = new; standing = standing_so i }) second)
 
-  pub memory-gone : IsMemory S slots new (record { uses = put id None registry.uses; dropped = registry.dropped ++ (id ∷ []) }) counts (closed id new m)
+  pub memory-gone : IsMemory S slots new (record { uses = put_at_number id None registry.uses; dropped = registry.dropped ++ (id ∷ []) }) counts (without_chain id new m)
   memory-gone = record {
     held = held-gone;
     sound = each-put (λ k. IsSoundChain k.chain) m.chains id None h.sound tt;
-    rule = rule-gone m (closed id new m) id refl h.rule refl none-of;
+    rule = rule-gone m (without_chain id new m) id refl h.rule refl none-of;
     fit = each-put (λ k. FitTogether S k.chain.versions) m.chains id None h.fit tt;
   }

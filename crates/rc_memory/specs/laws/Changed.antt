@@ -19,7 +19,7 @@ use Rattle.rc_partition.specs.Objects.{holds-stands}
 use Rattle.rc_partition.specs.Partitions.{AreStanding, PartitionEntry, StandingVersion, among, partition_of, standing}
 use Rattle.rc_partition.specs.laws.Changed.{stands-settled}
 use Rattle.rc_partition.specs.laws.Lists.{elem-cases, elem-none}
-use Rattle.rc_registry.specs.Registry.{Registry, put}
+use Rattle.rc_registry.specs.Registry.{Registry, put_at_number}
 use Rattle.rc_memory.specs.declared.counts.Counts.{Counts}
 use Rattle.rc_memory.specs.Memory.{Member, Memory, IsObjectAt, IsOfVersion, IsVersionAt, version_changed, on_chain, on_shown, on_version_of, partition_with, with_standing}
 use Rattle.rc_memory.specs.Kept.{AreKept, HoldMemory, StandAt, chain_of_use, present}
@@ -72,17 +72,17 @@ module _ (slots : Slots) (old new : View) (registry : Registry) (counts : Counts
   after-is : partition_with j (standing s.object now c) p ≡ partition_of p.root (number.older ++ (standing s.object now c ∷ number.newer))
   after-is = ap (λ vs. partition_of p.root vs) (ap (with_standing j (standing s.object now c)) number.split ∙ with-at number.older s number.newer j (standing s.object now c) number.number)
 
-  pub standing-is : put id (option_map (partition_with j (standing s.object now c)) (slice_index_or m.standing id None)) m.standing ≡ put id (Some (partition_of p.root (number.older ++ (standing s.object now c ∷ number.newer)))) m.standing
-  standing-is = ap (λ o. put id (option_map (partition_with j (standing s.object now c)) o) m.standing) there ∙ ap (λ q. put id (Some q) m.standing) after-is
+  pub standing-is : put_at_number id (option_map (partition_with j (standing s.object now c)) (slice_index_or m.standing id None)) m.standing ≡ put_at_number id (Some (partition_of p.root (number.older ++ (standing s.object now c ∷ number.newer)))) m.standing
+  standing-is = ap (λ o. put_at_number id (option_map (partition_with j (standing s.object now c)) o) m.standing) there ∙ ap (λ q. put_at_number id (Some q) m.standing) after-is
 
-  chains-are : on_chain id (on_shown (on_version_of j (λ v. c))) m.chains ≡ put id (Some (chain_of_use user.used (partition_of p.root (number.older ++ (standing s.object now c ∷ number.newer))))) m.chains
-  chains-are = ap (λ o. put id (option_map (on_shown (on_version_of j (λ v. c))) o) m.chains) user.chain
-      ∙ ap (λ (vs : List Version). put id (Some (record { chain = record { kind = user.used.kind; versions = vs; attached = user.used.attached; updating = user.used.updating; pins = user.used.pins }; passed = user.used.passed })) m.chains)
+  chains-are : on_chain id (on_shown (on_version_of j (λ v. c))) m.chains ≡ put_at_number id (Some (chain_of_use user.used (partition_of p.root (number.older ++ (standing s.object now c ∷ number.newer))))) m.chains
+  chains-are = ap (λ o. put_at_number id (option_map (on_shown (on_version_of j (λ v. c))) o) m.chains) user.chain
+      ∙ ap (λ (vs : List Version). put_at_number id (Some (record { chain = record { kind = user.used.kind; versions = vs; attached = user.used.attached; updating = user.used.updating; pins = user.used.pins }; passed = user.used.passed })) m.chains)
       (sym (on-with j (standing s.object now c) p.versions))
-      ∙ ap (λ q. put id (Some (chain_of_use user.used q)) m.chains) after-is
+      ∙ ap (λ q. put_at_number id (Some (chain_of_use user.used q)) m.chains) after-is
 
-  kept_after : AreKept registry.uses (put id (Some (partition_of p.root (number.older ++ (standing s.object now c ∷ number.newer)))) m.standing) (put id (Some (chain_of_use user.used (partition_of p.root (number.older ++ (standing s.object now c ∷ number.newer))))) m.chains)
-  kept_after = subst (λ us. AreKept us (put id (Some (partition_of p.root (number.older ++ (standing s.object now c ∷ number.newer)))) m.standing) (put id (Some (chain_of_use user.used (partition_of p.root (number.older ++ (standing s.object now c ∷ number.newer))))) m.chains))
+  kept_after : AreKept registry.uses (put_at_number id (Some (partition_of p.root (number.older ++ (standing s.object now c ∷ number.newer)))) m.standing) (put_at_number id (Some (chain_of_use user.used (partition_of p.root (number.older ++ (standing s.object now c ∷ number.newer))))) m.chains)
+  kept_after = subst (λ us. AreKept us (put_at_number id (Some (partition_of p.root (number.older ++ (standing s.object now c ∷ number.newer)))) m.standing) (put_at_number id (Some (chain_of_use user.used (partition_of p.root (number.older ++ (standing s.object now c ∷ number.newer))))) m.chains))
       (put-same registry.uses id user.used user.at)
       (kept-put registry.uses m.standing m.chains id (Some user.used) (Some (partition_of p.root (number.older ++ (standing s.object now c ∷ number.newer)))) (Some (chain_of_use user.used (partition_of p.root (number.older ++ (standing s.object now c ∷ number.newer))))) h.kept (user.root, refl))
 
@@ -107,7 +107,7 @@ module _ (slots : Slots) (old new : View) (registry : Registry) (counts : Counts
       same_place e = version-place slots old h.well m.standing h.listed h.stands w.chain id w.version j a.partition p a.version s a.chain there a.number number e
 
       -- an object at one of these places stands there still
-      pub object_after : IsObjectAt new (put id (Some (partition_of p.root (number.older ++ (standing s.object now c ∷ number.newer)))) m.standing) r w
+      pub object_after : IsObjectAt new (put_at_number id (Some (partition_of p.root (number.older ++ (standing s.object now c ∷ number.newer)))) m.standing) r w
       object_after = elim (decided w.chain id) [
         | inr ne ↦ record {
           partition = a.partition;
@@ -118,11 +118,11 @@ module _ (slots : Slots) (old new : View) (registry : Registry) (counts : Counts
         }
         | inl here ↦ in_chain here
       ] where
-        in_chain : w.chain ≡ id → IsObjectAt new (put id (Some (partition_of p.root (number.older ++ (standing s.object now c ∷ number.newer)))) m.standing) r w
+        in_chain : w.chain ≡ id → IsObjectAt new (put_at_number id (Some (partition_of p.root (number.older ++ (standing s.object now c ∷ number.newer)))) m.standing) r w
         in_chain here =
             let same_p = same_some a.partition p (sym a.chain ∙ ap (λ n. slice_index_or m.standing n None) here ∙ there) in
             let at_p : IsVersionAt p.versions w.version a.version = subst (λ (q : PartitionEntry). IsVersionAt q.versions w.version a.version) same_p a.number in
-            let chain = ap (λ n. slice_index_or (put id (Some (partition_of p.root (number.older ++ (standing s.object now c ∷ number.newer)))) m.standing) n None) here ∙ put-at m.standing id (Some (partition_of p.root (number.older ++ (standing s.object now c ∷ number.newer)))) in
+            let chain = ap (λ n. slice_index_or (put_at_number id (Some (partition_of p.root (number.older ++ (standing s.object now c ∷ number.newer)))) m.standing) n None) here ∙ put-at m.standing id (Some (partition_of p.root (number.older ++ (standing s.object now c ∷ number.newer)))) in
             elim (decided w.version j) [
               | inl same ↦
                   let version = one-at p.versions j a.version s (subst (λ n. IsVersionAt p.versions n a.version) same at_p) number in record {
@@ -149,13 +149,13 @@ module _ (slots : Slots) (old new : View) (registry : Registry) (counts : Counts
       well = well;
       region = refl;
       kept = subst (λ ps. AreKept registry.uses ps (on_chain id (on_shown (on_version_of j (λ v. c))) m.chains)) (sym standing-is)
-          (subst (AreKept registry.uses (put id (Some (partition_of p.root (number.older ++ (standing s.object now c ∷ number.newer)))) m.standing)) (sym chains-are) kept_after);
+          (subst (AreKept registry.uses (put_at_number id (Some (partition_of p.root (number.older ++ (standing s.object now c ∷ number.newer)))) m.standing)) (sym chains-are) kept_after);
       listed = h.listed;
       stands = subst (λ st. AreStanding slots new (present st) h.listed) (sym standing-is)
           (subst (λ ps. AreStanding slots new ps h.listed) (sym (place.with_one (partition_of p.root (number.older ++ (standing s.object now c ∷ number.newer)))))
           (stands-after kept_but is summed well summed_new weigh));
       recency = subst (λ st. StandAt new st h.listed m.recency) (sym standing-is)
-          (stand-each old new m.standing (put id (Some (partition_of p.root (number.older ++ (standing s.object now c ∷ number.newer)))) m.standing) h.listed m.recency (λ r w in_refs on a. object_after (Contains m.recency) kept_but is rows r w on a) h.recency);
+          (stand-each old new m.standing (put_at_number id (Some (partition_of p.root (number.older ++ (standing s.object now c ∷ number.newer)))) m.standing) h.listed m.recency (λ r w in_refs on a. object_after (Contains m.recency) kept_but is rows r w on a) h.recency);
       dropped = h.dropped;
       counted = h.counted;
       roots = ap (λ (k : SlotCounts). k.there) kept_but.slots ∙ h.roots ∙ ap (λ n. 2 + n) (sym (length-same m.chains id (on_shown (on_version_of j (λ v. c)))));

@@ -7,7 +7,7 @@ use Rattle.lsa_region.specs.Region.{View}
 use Rattle.rc_partition.specs.List.{List as Slots}
 use Rattle.rc_registry.specs.Entry.{Entry}
 use Rattle.rc_registry.specs.AtPlace.{HasEntryAt}
-use Rattle.rc_registry.specs.Change.{drop_at, split}
+use Rattle.rc_registry.specs.Change.{drop_at, gap_split}
 use Rattle.rc_registry.specs.Continuity.{with_entries, without_statics}
 use Rattle.rc_registry.specs.Steps.{on_version, row_joined}
 use Rattle.rc_registry.specs.Version.{EndsWithDummy, Version, IsVersion, end_position}
@@ -17,7 +17,7 @@ use Rattle.rc_memory.specs.Memory.{KeptChain, Memory, HasVersion, IsVersionAt, c
 use Rattle.rc_memory.specs.Recency.{HasObject, IsLastInner, IsRecency, IsUnderUpdate}
 use Rattle.rc_memory.specs.Room.{FitTogether}
 use Rattle.rc_memory.specs.Kept.{HoldMemory, IsMemory, IsSoundChain}
-use Rattle.rc_memory.specs.Changes.{FitsChanged, IsRenewed, IsRenewedWhereNone, IsWithout, KeepsLast, KeepsRows, OfVersion, member}
+use Rattle.rc_memory.specs.Changes.{FitsChanged, IsRenewed, IsRenewedWhereNone, IsWithout, KeepsLast, KeepsRows, OfVersion, member_at}
 use Rattle.rc_memory.specs.laws.At.{found-version, version-is}
 use Rattle.rc_memory.specs.laws.Entries.{here-joined, here-split, keeps-dropped, keeps-joined, keeps-split, only-dropped, only-joined, only-split}
 use Rattle.rc_memory.specs.laws.Listing.{pos_decided}
@@ -75,8 +75,8 @@ module _ (S : ℕ) (slots : Slots) (old new : View) (registry : Registry) (count
       is-one : IsVersion here.1
       is-one = version-is slots old registry counts m h.held id j here.0 here.1 here.2 here.3
 
-      stays-last : KeepsLast id j f m → IsUnderUpdate here.0.chain j → (at : Option Pos) → IsLastInner here.1 at → IsLastInner (f here.1) at ⊎ Contains m.recency (member id j at)
-      stays-last last = subst (λ o. IfSome o (λ k. (v : Version) → IsVersionAt k.chain.versions j v → IsUnderUpdate k.chain j → (at : Option Pos) → IsLastInner v at → IsLastInner (f v) at ⊎ Contains m.recency (member id j at))) here.2 last here.1 here.3
+      stays-last : KeepsLast id j f m → IsUnderUpdate here.0.chain j → (at : Option Pos) → IsLastInner here.1 at → IsLastInner (f here.1) at ⊎ Contains m.recency (member_at id j at)
+      stays-last last = subst (λ o. IfSome o (λ k. (v : Version) → IsVersionAt k.chain.versions j v → IsUnderUpdate k.chain j → (at : Option Pos) → IsLastInner v at → IsLastInner (f v) at ⊎ Contains m.recency (member_at id j at))) here.2 last here.1 here.3
 
       -- no row and no position changed
       pub memory-marked : KeepsRows f → n.recency ≡ m.recency → IsMemory S slots new registry counts n
@@ -88,7 +88,7 @@ module _ (S : ℕ) (slots : Slots) (old new : View) (registry : Registry) (count
           (less-fits (λ v. let k = keeps v in within-alike v (f v) k.0 k.1))
 
       -- a static row made anew
-      pub memory-statics : ((v : Version) → ((f v).entries ≡ v.entries) × IsSome (f v).statics) → OfVersion m id j (λ k v. IsRenewed k.chain.kind (member id j None) m.recency n.recency) → FitsChanged S id j f m → IsMemory S slots new registry counts n
+      pub memory-statics : ((v : Version) → ((f v).entries ≡ v.entries) × IsSome (f v).statics) → OfVersion m id j (λ k v. IsRenewed k.chain.kind (member_at id j None) m.recency n.recency) → FitsChanged S id j f m → IsMemory S slots new registry counts n
       memory-statics does list fits =
           let now = does here.1 in
           memory-changed (rule-renewed m n id j f here.0 here.1 here.2 here.3 changed h.rule None (list here.0 here.1 here.2 here.3) (keeps now) (only now) now.1 (λ e. cc e) (λ u at last. inl (last_same now at last))) fits
@@ -113,35 +113,35 @@ module _ (S : ℕ) (slots : Slots) (old new : View) (registry : Registry) (count
 
     module _ (x : Pos) where
       -- a split
-      pub memory-split : n.chains ≡ on_chain id (on_shown (on_version_of j (λ c. with_entries (split x c.entries) c))) m.chains → OfVersion m id j (λ k v. IsRenewedWhereNone k.chain.kind v (member id j (Some x)) m.recency n.recency)
-          → FitsChanged S id j (λ c. with_entries (split x c.entries) c) m → KeepsLast id j (λ c. with_entries (split x c.entries) c) m → IsMemory S slots new registry counts n
-      memory-split changed list fits last = memory-changed (λ c. with_entries (split x c.entries) c) changed (elim (entry_decided x found.1.entries) [
-        | inl there ↦ rule-kept m n id j (λ c. with_entries (split x c.entries) c) found.0 found.1 found.2 found.3 changed h.rule ((list found.0 found.1 found.2 found.3).there there) (keeps-split found.1 x)
+      pub memory-split : n.chains ≡ on_chain id (on_shown (on_version_of j (λ c. with_entries (gap_split x c.entries) c))) m.chains → OfVersion m id j (λ k v. IsRenewedWhereNone k.chain.kind v (member_at id j (Some x)) m.recency n.recency)
+          → FitsChanged S id j (λ c. with_entries (gap_split x c.entries) c) m → KeepsLast id j (λ c. with_entries (gap_split x c.entries) c) m → IsMemory S slots new registry counts n
+      memory-split changed list fits last = memory-changed (λ c. with_entries (gap_split x c.entries) c) changed (elim (entry_decided x found.1.entries) [
+        | inl there ↦ rule-kept m n id j (λ c. with_entries (gap_split x c.entries) c) found.0 found.1 found.2 found.3 changed h.rule ((list found.0 found.1 found.2 found.3).there there) (keeps-split found.1 x)
             (λ at object. elim (only-split found.1 x at object) [ inl was ↦ was | inr this ↦ subst (HasObject found.1) (sym this) there ])
-            (stays-last (λ c. with_entries (split x c.entries) c) changed has last)
-        | inr none ↦ rule-renewed m n id j (λ c. with_entries (split x c.entries) c) found.0 found.1 found.2 found.3 changed h.rule (Some x) ((list found.0 found.1 found.2 found.3).made none) (keeps-split found.1 x) (only-split found.1 x) (here-split found.1 x one.ends)
+            (stays-last (λ c. with_entries (gap_split x c.entries) c) changed has last)
+        | inr none ↦ rule-renewed m n id j (λ c. with_entries (gap_split x c.entries) c) found.0 found.1 found.2 found.3 changed h.rule (Some x) ((list found.0 found.1 found.2 found.3).made none) (keeps-split found.1 x) (only-split found.1 x) (here-split found.1 x one.ends)
             (λ e. none (subst (λ y. HasEntryAt y found.1.entries) (sym (same_position e)) (end-there found.1.entries one.ends)))
-            (stays-last (λ c. with_entries (split x c.entries) c) changed has last)
+            (stays-last (λ c. with_entries (gap_split x c.entries) c) changed has last)
       ]) fits
         where
           same_position : Some x ≡ Some end_position → x ≡ end_position
           same_position e = cc e
 
       -- a row joined
-      pub memory-joined : (row : Row) → x ≢ end_position → n.chains ≡ on_chain id (on_shown (on_version_of j (row_joined x row))) m.chains → OfVersion m id j (λ k v. IsRenewed k.chain.kind (member id j (Some x)) m.recency n.recency)
+      pub memory-joined : (row : Row) → x ≢ end_position → n.chains ≡ on_chain id (on_shown (on_version_of j (row_joined x row))) m.chains → OfVersion m id j (λ k v. IsRenewed k.chain.kind (member_at id j (Some x)) m.recency n.recency)
           → FitsChanged S id j (row_joined x row) m → KeepsLast id j (row_joined x row) m → IsMemory S slots new registry counts n
       memory-joined row inner changed list fits last = memory-changed (row_joined x row) changed
           (rule-renewed m n id j (row_joined x row) found.0 found.1 found.2 found.3 changed h.rule (Some x) (list found.0 found.1 found.2 found.3) (keeps-joined found.1 x row) (only-joined found.1 x row) (here-joined found.1 x one.ends row)
           (λ e. inner (cc e)) (stays-last (row_joined x row) changed has last)) fits
 
       -- an entry taken out
-      pub memory-dropped : x ≢ end_position → n.chains ≡ on_chain id (on_shown (on_version_of j (λ c. with_entries (drop_at x c.entries) c))) m.chains → IsWithout (member id j (Some x)) m.recency n.recency → IsMemory S slots new registry counts n
+      pub memory-dropped : x ≢ end_position → n.chains ≡ on_chain id (on_shown (on_version_of j (λ c. with_entries (drop_at x c.entries) c))) m.chains → IsWithout (member_at id j (Some x)) m.recency n.recency → IsMemory S slots new registry counts n
       memory-dropped inner changed list = memory-changed (λ c. with_entries (drop_at x c.entries) c) changed
           (rule-out m n id j (λ c. with_entries (drop_at x c.entries) c) found.0 found.1 found.2 found.3 changed h.rule (Some x) list (keeps-dropped found.1 x) (only-dropped found.1 x one.ascend)
           (λ u at ne l. last-dropped found.1 x one.ends inner at ne l)) (less-fits (λ c. with_entries (drop_at x c.entries) c) changed (within-dropped x))
 
     -- a static row taken out
-    pub memory-undone : n.chains ≡ on_chain id (on_shown (on_version_of j without_statics)) m.chains → IsWithout (member id j None) m.recency n.recency → IsMemory S slots new registry counts n
+    pub memory-undone : n.chains ≡ on_chain id (on_shown (on_version_of j without_statics)) m.chains → IsWithout (member_at id j None) m.recency n.recency → IsMemory S slots new registry counts n
     memory-undone changed list = memory-changed without_statics changed
         (rule-out m n id j without_statics found.0 found.1 found.2 found.3 changed h.rule None list keeps only (λ u at ne l. l)) (less-fits without_statics changed within-undone)
       where

@@ -10,7 +10,7 @@ use Rattle.rc_position.specs.laws.Orders.{eq_by_cmp-same, pos_cmp_same, pos_cmp_
 use Rattle.rc_registry.specs.Entry.{Entry}
 use Rattle.rc_registry.specs.Mark.{Mark}
 use Rattle.rc_registry.specs.AtPlace.{HasEntryAt}
-use Rattle.rc_registry.specs.Change.{at_entry, drop_at, lost_mark, split, split_by, take_out, with_first_gap, with_row}
+use Rattle.rc_registry.specs.Change.{at_entry, drop_at, gap_split, lost_mark, split_by, take_out, with_first_gap, with_row}
 use Rattle.rc_registry.specs.Continuity.{with_entries}
 use Rattle.rc_registry.specs.Steps.{row_joined}
 use Rattle.rc_registry.specs.Version.{Ascend, EndsWithDummy, Version}
@@ -20,9 +20,9 @@ use Rattle.rc_memory.specs.Recency.{HasObject}
 
 -- ---- entries
 
-pub split-has : (x y : Pos) (es : List Entry) → HasEntryAt y (split x es) → HasEntryAt y es ⊎ (y ≡ x)
+pub split-has : (x y : Pos) (es : List Entry) → HasEntryAt y (gap_split x es) → HasEntryAt y es ⊎ (y ≡ x)
 split-has x y [] h = absurd h
-split-has x y (e ∷ es) h = (elim (pos_cmp x e.position) as (λ r. HasEntryAt y (split_by r x e es (split x es)) → HasEntryAt y (e ∷ es) ⊎ (y ≡ x)) [
+split-has x y (e ∷ es) h = (elim (pos_cmp x e.position) as (λ r. HasEntryAt y (split_by r x e es (gap_split x es)) → HasEntryAt y (e ∷ es) ⊎ (y ≡ x)) [
   | Less ↦ λ k. elim k [ inl here ↦ inr (sym here) | inr later ↦ inl later ]
   | Equal ↦ λ k. inl k
   | Greater ↦ λ k. elim k [
@@ -69,27 +69,27 @@ taken-has m x y (e ∷ es) a h = told (λ k. taken-has m x y es (ascend-tail e e
 -- ---- objects
 
 module _ (v : Version) (x : Pos) where
-  pub keeps-split : (at : Option Pos) → HasObject v at → HasObject (with_entries (split x v.entries) v) at
+  pub keeps-split : (at : Option Pos) → HasObject v at → HasObject (with_entries (gap_split x v.entries) v) at
   keeps-split None h = h
   keeps-split (Some y) h = has-split x y v.entries h
 
-  pub only-split : (at : Option Pos) → HasObject (with_entries (split x v.entries) v) at → HasObject v at ⊎ (at ≡ Some x)
+  pub only-split : (at : Option Pos) → HasObject (with_entries (gap_split x v.entries) v) at → HasObject v at ⊎ (at ≡ Some x)
   only-split None h = inl h
   only-split (Some y) h = elim (split-has x y v.entries h) [ inl old ↦ inl old | inr made ↦ inr (ap (λ z. Some z) made) ]
 
-  pub here-split : EndsWithDummy v.entries → HasObject (with_entries (split x v.entries) v) (Some x)
-  here-split ends = stands-has x (split x v.entries) (split-stands x v.entries (position-reached x v.entries ends))
+  pub here-split : EndsWithDummy v.entries → HasObject (with_entries (gap_split x v.entries) v) (Some x)
+  here-split ends = stands-has x (gap_split x v.entries) (split-stands x v.entries (position-reached x v.entries ends))
 
   pub here-joined : EndsWithDummy v.entries → (row : Row) → HasObject (row_joined x row v) (Some x)
-  here-joined ends row = has-at (with_row row) (λ e. refl) x x (split x v.entries) (here-split ends)
+  here-joined ends row = has-at (with_row row) (λ e. refl) x x (gap_split x v.entries) (here-split ends)
 
   pub keeps-joined : (row : Row) (at : Option Pos) → HasObject v at → HasObject (row_joined x row v) at
   keeps-joined row None h = h
-  keeps-joined row (Some y) h = has-at (with_row row) (λ e. refl) x y (split x v.entries) (has-split x y v.entries h)
+  keeps-joined row (Some y) h = has-at (with_row row) (λ e. refl) x y (gap_split x v.entries) (has-split x y v.entries h)
 
   pub only-joined : (row : Row) (at : Option Pos) → HasObject (row_joined x row v) at → HasObject v at ⊎ (at ≡ Some x)
   only-joined row None h = inl h
-  only-joined row (Some y) h = elim (split-has x y v.entries (at-has (with_row row) (λ e. refl) x y (split x v.entries) h)) [ inl old ↦ inl old | inr made ↦ inr (ap (λ z. Some z) made) ]
+  only-joined row (Some y) h = elim (split-has x y v.entries (at-has (with_row row) (λ e. refl) x y (gap_split x v.entries) h)) [ inl old ↦ inl old | inr made ↦ inr (ap (λ z. Some z) made) ]
 
   -- what is done to an entry that keeps its position
   pub keeps-marks : (f : Entry → Entry) → ((e : Entry) → (f e).position ≡ e.position) → (at : Option Pos) → HasObject v at → HasObject (with_entries (at_entry x f v.entries) v) at

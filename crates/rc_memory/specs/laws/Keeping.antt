@@ -7,7 +7,7 @@ use Rattle.lsa_region.specs.declared.end.End.TheVariants.{Obj}
 use Rattle.lsa_region.specs.Region.{View, link_of, IsWell, Renamed, SameObjects}
 use Rattle.rc_partition.specs.List.{List as Slots}
 use Rattle.rc_partition.specs.Recency.{IsElsewhere, IsList}
-use Rattle.rc_registry.specs.Steps.{pinned, released}
+use Rattle.rc_registry.specs.Steps.{pins_with, pins_without}
 use Rattle.rc_partition.specs.Partitions.{PartitionEntry}
 use Rattle.rc_registry.specs.declared.uses.Use.{Use}
 use Rattle.rc_registry.specs.Registry.{Registry, on_use, set_passed, with_pin, without_pin}
@@ -38,12 +38,12 @@ module _ (S : ℕ) (slots : Slots) (v : View) (registry : Registry) (counts : Co
   memory-passed passed = memory-used (set_passed passed) (mark_passed passed) (λ u. refl) (λ u p. refl) (λ k. (refl, refl, refl)) (λ k e s. s)
 
   pub memory-pinned : (version : ℕ) → ((k : KeptChain) → chain_at m id ≡ Some k → version < length k.chain.versions) → ((k : KeptChain) → chain_at m id ≡ Some k → k.chain.updating ≡ true → suc version < length k.chain.versions)
-      → IsMemory S slots v (on_use id (with_pin version) registry) counts (with_chains (on_chain id (on_shown (λ c. shown_pinned (pinned version c.pins) c)) m.chains) m)
-  memory-pinned version low inner = memory-used (with_pin version) (on_shown (λ c. shown_pinned (pinned version c.pins) c)) (λ u. refl) (λ u p. refl) (λ k. (refl, refl, refl))
+      → IsMemory S slots v (on_use id (with_pin version) registry) counts (with_chains (on_chain id (on_shown (λ c. shown_pinned (pins_with version c.pins) c)) m.chains) m)
+  memory-pinned version low inner = memory-used (with_pin version) (on_shown (λ c. shown_pinned (pins_with version c.pins) c)) (λ u. refl) (λ u p. refl) (λ k. (refl, refl, refl))
       (λ k e s. sound-pinned k.chain s version (low k e) (inner k e))
 
-  pub memory-released : (pin : ℕ) → IsMemory S slots v (on_use id (without_pin pin) registry) counts (with_chains (on_chain id (on_shown (λ c. shown_pinned (released pin c.pins) c)) m.chains) m)
-  memory-released pin = memory-used (without_pin pin) (on_shown (λ c. shown_pinned (released pin c.pins) c)) (λ u. refl) (λ u p. refl) (λ k. (refl, refl, refl)) (λ k e s. sound-released k.chain s pin)
+  pub memory-released : (pin : ℕ) → IsMemory S slots v (on_use id (without_pin pin) registry) counts (with_chains (on_chain id (on_shown (λ c. shown_pinned (pins_without pin c.pins) c)) m.chains) m)
+  memory-released pin = memory-used (without_pin pin) (on_shown (λ c. shown_pinned (pins_without pin c.pins) c)) (λ u. refl) (λ u p. refl) (λ k. (refl, refl, refl)) (λ k e s. sound-released k.chain s pin)
 
 module _ (S : ℕ) (slots : Slots) (old new : View) (registry : Registry) (counts : Counts) (m : Memory) (h : IsMemory S slots old registry counts m) where
   -- objects moved

@@ -14,9 +14,9 @@ use Rattle.rc_partition.specs.Partitions.{AreStanding, PartitionEntry, StandingV
 use Rattle.rc_partition.specs.laws.Lists.{elem-none}
 use Rattle.rc_partition.specs.laws.Roots.{stands-with_empty, stands-without_empty}
 use Rattle.rc_registry.specs.declared.uses.Use.{Use}
-use Rattle.rc_registry.specs.Registry.{Registry, new_use, put, with_use}
+use Rattle.rc_registry.specs.Registry.{Registry, new_use, put_at_number, with_use}
 use Rattle.rc_memory.specs.declared.counts.Counts.{Counts}
-use Rattle.rc_memory.specs.Memory.{KeptChain, Member, Memory, IsObjectAt, IsOfVersion, chain_at, closed, empty_chain, opened}
+use Rattle.rc_memory.specs.Memory.{KeptChain, Member, Memory, IsObjectAt, IsOfVersion, chain_at, without_chain, empty_chain, with_new_chain}
 use Rattle.rc_memory.specs.Kept.{HoldMemory, chain_of_use}
 use Rattle.rc_memory.specs.laws.At.{kept-at, unused-chain}
 use Rattle.rc_memory.specs.laws.Places.{no_some, same_some}
@@ -29,11 +29,11 @@ module _ (slots : Slots) (old new : View) (registry : Registry) (counts : Counts
   of_same s None r a = links (Obj s.object 3) ∙ a
   of_same s (Some x) r a = (a.0, stands-same old new r x (same.bodies r) a.1)
 
-  object_same : (p : Option PartitionEntry) (r : Ref) (w : Member) → w.chain ≢ id → IsObjectAt old m.standing r w → IsObjectAt new (put id p m.standing) r w
+  object_same : (p : Option PartitionEntry) (r : Ref) (w : Member) → w.chain ≢ id → IsObjectAt old m.standing r w → IsObjectAt new (put_at_number id p m.standing) r w
   object_same p r w ne a = record { partition = a.partition; version = a.version; chain = put-beside m.standing id p w.chain ne ∙ a.chain; number = a.number; object = of_same a.version w.position r a.object }
 
   -- a chain of no version comes with its root slot
-  pub held-opened : (root : Root) (kind : ChainKind) → IsRootAdded old new root → slice_index_or registry.uses id None ≡ None → HoldMemory slots new (with_use id (Some (new_use root kind)) registry) counts (opened id root kind new m)
+  pub held-opened : (root : Root) (kind : ChainKind) → IsRootAdded old new root → slice_index_or registry.uses id None ≡ None → HoldMemory slots new (with_use id (Some (new_use root kind)) registry) counts (with_new_chain id root kind new m)
   held-opened root kind added free =
       let none = unused-at registry.uses m.standing m.chains id h.kept free in record {
         well = well;
@@ -42,7 +42,7 @@ module _ (slots : Slots) (old new : View) (registry : Registry) (counts : Counts
         listed = h.listed;
         stands = subst (λ ps. AreStanding slots new ps h.listed) (sym ((placed m.standing id).with_one (partition_of root [])))
             (stands-with_empty slots old new (placed m.standing id).front (placed m.standing id).back root h.listed added same h.well (subst (λ ps. AreStanding slots old ps h.listed) ((placed m.standing id).free none) h.stands));
-        recency = stand-each old new m.standing (put id (Some (partition_of root [])) m.standing) h.listed m.recency
+        recency = stand-each old new m.standing (put_at_number id (Some (partition_of root [])) m.standing) h.listed m.recency
             (λ r w in_refs on a. object_same (Some (partition_of root [])) r w (λ e. no_some a.partition (sym none ∙ ap (λ n. slice_index_or m.standing n None) (sym e) ∙ a.chain)) a) h.recency;
         dropped = h.dropped;
         counted = h.counted;
@@ -50,7 +50,7 @@ module _ (slots : Slots) (old new : View) (registry : Registry) (counts : Counts
       }
 
   -- and goes with it
-  pub held-closed : (root : Root) → IsRootDropped old new root → slice_index_or m.standing id None ≡ Some (partition_of root []) → HoldMemory slots new (record { uses = put id None registry.uses; dropped = registry.dropped ++ (id ∷ []) }) counts (closed id new m)
+  pub held-closed : (root : Root) → IsRootDropped old new root → slice_index_or m.standing id None ≡ Some (partition_of root []) → HoldMemory slots new (record { uses = put_at_number id None registry.uses; dropped = registry.dropped ++ (id ∷ []) }) counts (without_chain id new m)
   held-closed root gone there = record {
     well = well;
     region = refl;
@@ -58,7 +58,7 @@ module _ (slots : Slots) (old new : View) (registry : Registry) (counts : Counts
     listed = h.listed;
     stands = subst (λ ps. AreStanding slots new ps h.listed) (sym (placed m.standing id).without)
         (stands-without_empty slots old new (placed m.standing id).front (placed m.standing id).back root h.listed gone same (subst (λ ps. AreStanding slots old ps h.listed) ((placed m.standing id).there (partition_of root []) there) h.stands));
-    recency = stand-each old new m.standing (put id None m.standing) h.listed m.recency (λ r w in_refs on a. object_same None r w (λ e. never r w e a) a) h.recency;
+    recency = stand-each old new m.standing (put_at_number id None m.standing) h.listed m.recency (λ r w in_refs on a. object_same None r w (λ e. never r w e a) a) h.recency;
     dropped = ap (λ l. l ++ (id ∷ [])) h.dropped;
     counted = h.counted;
     roots = omega (arith, gone.there, h.roots, length-gone m.chains id (chain_of_use user.used (partition_of root [])) user.chain);

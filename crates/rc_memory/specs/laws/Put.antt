@@ -3,7 +3,7 @@ use Rattle.std.proofs.Common.{◌≡◌, ◌≢◌, ℕ, zero, suc, List, [], �
 use Rattle.std.specs.Option.{option_map}
 use Rattle.rc_partition.specs.Partitions.{PartitionEntry}
 use Rattle.rc_registry.specs.declared.uses.Use.{Use}
-use Rattle.rc_registry.specs.Registry.{put}
+use Rattle.rc_registry.specs.Registry.{put_at_number}
 use Rattle.rc_memory.specs.Memory.{KeptChain, IsVersionAt}
 use Rattle.rc_memory.specs.Kept.{AreKept, IsKeptChain, chain_of_use, present}
 use Rattle.rc_memory.specs.laws.Places.{heads, no_some, same_some, tails}
@@ -12,14 +12,14 @@ use Rattle.rc_memory.specs.laws.Places.{heads, no_some, same_some, tails}
 
 module _ {X : Type 0} where
   -- the number reads what was put there
-  pub put-at : (xs : List (Option X)) (n : ℕ) (x : Option X) → slice_index_or (put n x xs) n None ≡ x
+  pub put-at : (xs : List (Option X)) (n : ℕ) (x : Option X) → slice_index_or (put_at_number n x xs) n None ≡ x
   put-at [] zero x = refl
   put-at [] (suc n) x = put-at [] n x
   put-at (y ∷ ys) zero x = refl
   put-at (y ∷ ys) (suc n) x = put-at ys n x
 
   -- any other number reads what it read
-  pub put-beside : (xs : List (Option X)) (n : ℕ) (x : Option X) (k : ℕ) → k ≢ n → slice_index_or (put n x xs) k None ≡ slice_index_or xs k None
+  pub put-beside : (xs : List (Option X)) (n : ℕ) (x : Option X) (k : ℕ) → k ≢ n → slice_index_or (put_at_number n x xs) k None ≡ slice_index_or xs k None
   put-beside [] zero x zero ne = absurd (ne refl)
   put-beside [] zero x (suc k) ne = refl
   put-beside [] (suc n) x zero ne = refl
@@ -30,7 +30,7 @@ module _ {X : Type 0} where
   put-beside (y ∷ ys) (suc n) x (suc k) ne = put-beside ys n x k (λ e. ne (ap suc e))
 
   -- what stands there put there changes nothing
-  pub put-same : (xs : List (Option X)) (n : ℕ) (x : X) → slice_index_or xs n None ≡ Some x → put n (Some x) xs ≡ xs
+  pub put-same : (xs : List (Option X)) (n : ℕ) (x : X) → slice_index_or xs n None ≡ Some x → put_at_number n (Some x) xs ≡ xs
   put-same [] n x e = absurd (no_some x e)
   put-same (y ∷ ys) zero x e = ap (λ o. o ∷ ys) (sym e)
   put-same (y ∷ ys) (suc n) x e = ap (λ l. y ∷ l) (put-same ys n x e)
@@ -41,8 +41,8 @@ pub record IsPlaced {X : Type 0} (xs : List (Option X)) (n : ℕ) : Type 0 where
   pub back : List X
   pub there : (x : X) → slice_index_or xs n None ≡ Some x → present xs ≡ front ++ (x ∷ back)
   pub free : slice_index_or xs n None ≡ None → present xs ≡ front ++ back
-  pub with_one : (x : X) → present (put n (Some x) xs) ≡ front ++ (x ∷ back)
-  pub without : present (put n None xs) ≡ front ++ back
+  pub with_one : (x : X) → present (put_at_number n (Some x) xs) ≡ front ++ (x ∷ back)
+  pub without : present (put_at_number n None xs) ≡ front ++ back
 
 pub placed : {X : Type 0} (xs : List (Option X)) (n : ℕ) → IsPlaced xs n
 placed [] zero = record { front = []; back = []; there = λ x e. absurd (no_some x e); free = λ e. refl; with_one = λ x. refl; without = refl }
@@ -66,16 +66,16 @@ module _ {X : Type 0} where
 
   module _ (xs : List (Option X)) (n : ℕ) where
     -- one more where there was none
-    pub length-added : (x : X) → slice_index_or xs n None ≡ None → length (present (put n (Some x) xs)) ≡ suc (length (present xs))
+    pub length-added : (x : X) → slice_index_or xs n None ≡ None → length (present (put_at_number n (Some x) xs)) ≡ suc (length (present xs))
     length-added x e = let p = placed xs n in ap length (p.with_one x) ∙ length-beside p.front p.back x ∙ sym (ap (λ l. suc (length l)) (p.free e))
 
     -- one less where there was one
-    pub length-gone : (x : X) → slice_index_or xs n None ≡ Some x → suc (length (present (put n None xs))) ≡ length (present xs)
+    pub length-gone : (x : X) → slice_index_or xs n None ≡ Some x → suc (length (present (put_at_number n None xs))) ≡ length (present xs)
     length-gone x e = let p = placed xs n in ap (λ l. suc (length l)) p.without ∙ sym (length-beside p.front p.back x) ∙ sym (ap length (p.there x e))
 
     -- as many where what is there becomes another one
-    pub length-same : (g : X → X) → length (present (put n (option_map g (slice_index_or xs n None)) xs)) ≡ length (present xs)
-    length-same g = elim (slice_index_or xs n None) as (λ o. slice_index_or xs n None ≡ o → length (present (put n (option_map g o) xs)) ≡ length (present xs)) [
+    pub length-same : (g : X → X) → length (present (put_at_number n (option_map g (slice_index_or xs n None)) xs)) ≡ length (present xs)
+    length-same g = elim (slice_index_or xs n None) as (λ o. slice_index_or xs n None ≡ o → length (present (put_at_number n (option_map g o) xs)) ≡ length (present xs)) [
       | None ↦ λ e. let p = placed xs n in ap length (p.without ∙ sym (p.free e))
       | Some x ↦ λ e. let p = placed xs n in ap length (p.with_one (g x)) ∙ length-beside p.front p.back (g x) ∙ sym (length-beside p.front p.back x) ∙ sym (ap length (p.there x e))
     ] refl
@@ -83,7 +83,7 @@ module _ {X : Type 0} where
 -- ---- chains
 
 -- another chain at a number
-pub kept-put : (us : List (Option Use)) (ps : List (Option PartitionEntry)) (cs : List (Option KeptChain)) (id : ℕ) (u : Option Use) (p : Option PartitionEntry) (c : Option KeptChain) → AreKept us ps cs → IsKeptChain u p c → AreKept (put id u us) (put id p ps) (put id c cs)
+pub kept-put : (us : List (Option Use)) (ps : List (Option PartitionEntry)) (cs : List (Option KeptChain)) (id : ℕ) (u : Option Use) (p : Option PartitionEntry) (c : Option KeptChain) → AreKept us ps cs → IsKeptChain u p c → AreKept (put_at_number id u us) (put_at_number id p ps) (put_at_number id c cs)
 kept-put [] [] [] zero u p c h one = (one, tt)
 kept-put [] [] [] (suc id) u p c h one = (refl, kept-put [] [] [] id u p c tt one)
 kept-put [] [] (k ∷ cs) id u p c h one = absurd h

@@ -12,10 +12,10 @@ use Rattle.rc_registry.specs.Steps.{on_version, version_of}
 use Rattle.rc_registry.specs.Version.{Version, end_position}
 use Rattle.rc_registry.specs.Surgery.{version-at}
 use Rattle.rc_partition.specs.laws.Lists.{elem-here, elem-left, elem-pushed, elem-replaced, elem-still, once-beside, once-with, once-without}
-use Rattle.rc_registry.specs.Registry.{put}
+use Rattle.rc_registry.specs.Registry.{put_at_number}
 use Rattle.rc_memory.specs.Memory.{KeptChain, Member, Memory, IsVersionAt, chain_at, on_chain, on_shown, on_version_of}
 use Rattle.rc_memory.specs.Recency.{HasObject, IsLastInner, IsRecency, IsUnderUpdate, MayBeListed, MustBeListed}
-use Rattle.rc_memory.specs.Changes.{member}
+use Rattle.rc_memory.specs.Changes.{member_at}
 use Rattle.rc_memory.specs.laws.At.{number-low}
 use Rattle.rc_memory.specs.laws.Listed.{one-at}
 use Rattle.rc_memory.specs.laws.Places.{heads, tails}
@@ -45,16 +45,16 @@ module _ {X : Type 0} where
 
 -- ---- one chain changed
 
-module _ (m n : Memory) (id : ℕ) (c : Option KeptChain) (is : n.chains ≡ put id c m.chains) where
+module _ (m n : Memory) (id : ℕ) (c : Option KeptChain) (is : n.chains ≡ put_at_number id c m.chains) where
   at_this : (w : Member) → w.chain ≡ id → chain_at n w.chain ≡ c
-  at_this w e = ap (λ cs. slice_index_or cs w.chain None) is ∙ ap (λ k. slice_index_or (put id c m.chains) k None) e ∙ put-at m.chains id c
+  at_this w e = ap (λ cs. slice_index_or cs w.chain None) is ∙ ap (λ k. slice_index_or (put_at_number id c m.chains) k None) e ∙ put-at m.chains id c
 
   at_other : (w : Member) → w.chain ≢ id → chain_at n w.chain ≡ chain_at m w.chain
   at_other w ne = ap (λ cs. slice_index_or cs w.chain None) is ∙ put-beside m.chains id c w.chain ne
 
   -- the list may be another one at the chain's own places
   pub rule-put : AllPairs ◌≢◌ n.recency → ((w : Member) → w.chain ≢ id → Contains n.recency w → Contains m.recency w) → ((w : Member) → w.chain ≢ id → Contains m.recency w → Contains n.recency w)
-      → ((j : ℕ) (at : Option Pos) → Contains n.recency (member id j at) → IsSomeAnd c (λ k. MayBeListed k.chain j at)) → ((j : ℕ) (at : Option Pos) → IsSomeAnd c (λ k. MustBeListed k.chain j at) → Contains n.recency (member id j at))
+      → ((j : ℕ) (at : Option Pos) → Contains n.recency (member_at id j at) → IsSomeAnd c (λ k. MayBeListed k.chain j at)) → ((j : ℕ) (at : Option Pos) → IsSomeAnd c (λ k. MustBeListed k.chain j at) → Contains n.recency (member_at id j at))
       → IsRecency m → IsRecency n
   rule-put once fewer more may must h = record {
     once = once;
@@ -87,10 +87,10 @@ there_at P o k h e = subst (λ (x : Option KeptChain). IsSomeAnd x P) (sym e) h
 module _ (m n : Memory) (id : ℕ) (g : KeptChain → KeptChain) (is : n.chains ≡ on_chain id g m.chains) (list : n.recency ≡ m.recency) (h : IsRecency m) where
   -- the list stays
   pub rule-on : ((k : KeptChain) → chain_at m id ≡ Some k → (j : ℕ) (at : Option Pos) → MayBeListed k.chain j at → MayBeListed (g k).chain j at)
-      → ((k : KeptChain) → chain_at m id ≡ Some k → (j : ℕ) (at : Option Pos) → MustBeListed (g k).chain j at → Contains m.recency (member id j at)) → IsRecency n
+      → ((k : KeptChain) → chain_at m id ≡ Some k → (j : ℕ) (at : Option Pos) → MustBeListed (g k).chain j at → Contains m.recency (member_at id j at)) → IsRecency n
   rule-on may must = rule-put m n id (option_map g (chain_at m id)) is (subst (AllPairs ◌≢◌) (sym list) h.once) (λ w ne on. subst (λ l. Contains l w) list on) (λ w ne on. subst (λ l. Contains l w) (sym list) on)
-      (λ j at on. on_there (λ k. MayBeListed k.chain j at) (λ k. MayBeListed k.chain j at) g (chain_at m id) (h.members (member id j at) (subst (λ l. Contains l (member id j at)) list on)) (λ k e. may k e j at))
-      (λ j at on. subst (λ l. Contains l (member id j at)) (sym list) (from_there (λ k. MustBeListed k.chain j at) (Contains m.recency (member id j at)) g (chain_at m id) on (λ k e. must k e j at)))
+      (λ j at on. on_there (λ k. MayBeListed k.chain j at) (λ k. MayBeListed k.chain j at) g (chain_at m id) (h.members (member_at id j at) (subst (λ l. Contains l (member_at id j at)) list on)) (λ k e. may k e j at))
+      (λ j at on. subst (λ l. Contains l (member_at id j at)) (sym list) (from_there (λ k. MustBeListed k.chain j at) (Contains m.recency (member_at id j at)) g (chain_at m id) on (λ k e. must k e j at)))
       h
 
   -- where kind, versions and update of the chain do, the rule is kept
@@ -103,7 +103,7 @@ module _ (m n : Memory) (id : ℕ) (g : KeptChain → KeptChain) (is : n.chains 
         object = p.object;
         settled = λ u. p.settled (sym (alike k).2 ∙ u.0, u.1 ∙ ap length (alike k).1);
       })
-      (λ k e j at p. h.complete (member id j at) (there_at (λ x. MustBeListed x.chain j at) (chain_at m id) k (record {
+      (λ k e j at p. h.complete (member_at id j at) (there_at (λ x. MustBeListed x.chain j at) (chain_at m id) k (record {
         cached = sym (alike k).0 ∙ p.cached;
         version = p.version;
         number = subst (λ vs. IsVersionAt vs j p.version) (alike k).1 p.number;
@@ -130,7 +130,7 @@ module _ (m n : Memory) (id : ℕ) (g : KeptChain → KeptChain) (is : n.chains 
       })
       (λ k e j at p. let number : IsVersionAt (k.chain.versions ++ (version_of flag pt phase ∷ [])) j p.version = subst (λ vs. IsVersionAt vs j p.version) (made k e).1 p.number in
       elim (pushed-at k.chain.versions (version_of flag pt phase) j p.version number.older number.newer number.split number.number) [
-        | inl before ↦ h.complete (member id j at) (there_at (λ x. MustBeListed x.chain j at) (chain_at m id) k (record {
+        | inl before ↦ h.complete (member_at id j at) (there_at (λ x. MustBeListed x.chain j at) (chain_at m id) k (record {
           cached = sym (made k e).0 ∙ p.cached;
           version = p.version;
           number = before;
@@ -201,9 +201,9 @@ module _ (m n : Memory) (is : n.chains ≡ m.chains) (h : IsRecency m) where
 
 module _ (m n : Memory) (id : ℕ) (list : n.recency ≡ m.recency) (h : IsRecency m) where
   -- one of a version of its end dummy alone
-  pub rule-new : (k : KeptChain) (flag : Flag) (pt : Option Tomb) (phase : ℕ) → n.chains ≡ put id (Some k) m.chains → chain_at m id ≡ None → k.chain.versions ≡ version_of flag pt phase ∷ [] → IsRecency n
+  pub rule-new : (k : KeptChain) (flag : Flag) (pt : Option Tomb) (phase : ℕ) → n.chains ≡ put_at_number id (Some k) m.chains → chain_at m id ≡ None → k.chain.versions ≡ version_of flag pt phase ∷ [] → IsRecency n
   rule-new k flag pt phase is none made = rule-put m n id (Some k) is (subst (AllPairs ◌≢◌) (sym list) h.once) (λ w ne on. subst (λ l. Contains l w) list on) (λ w ne on. subst (λ l. Contains l w) (sym list) on)
-      (λ j at on. absurd (never (λ x. MayBeListed x.chain j at) (chain_at m id) none (h.members (member id j at) (subst (λ l. Contains l (member id j at)) list on))))
+      (λ j at on. absurd (never (λ x. MayBeListed x.chain j at) (chain_at m id) none (h.members (member_at id j at) (subst (λ l. Contains l (member_at id j at)) list on))))
       (λ j at must. absurd (let number : IsVersionAt (version_of flag pt phase ∷ []) j must.version = subst (λ vs. IsVersionAt vs j must.version) made must.number in
       elim (pushed-at [] (version_of flag pt phase) j must.version number.older number.newer number.split number.number) [
         | inl before ↦ no-version [] j must.version refl before
@@ -220,9 +220,9 @@ module _ (m n : Memory) (id : ℕ) (list : n.recency ≡ m.recency) (h : IsRecen
       only_end (Some x) (inr none_there) inner = none_there
 
   -- one that has no listed object is gone
-  pub rule-gone : n.chains ≡ put id None m.chains → ((j : ℕ) (at : Option Pos) → Contains m.recency (member id j at) → ⊥) → IsRecency n
+  pub rule-gone : n.chains ≡ put_at_number id None m.chains → ((j : ℕ) (at : Option Pos) → Contains m.recency (member_at id j at) → ⊥) → IsRecency n
   rule-gone is free = rule-put m n id None is (subst (AllPairs ◌≢◌) (sym list) h.once) (λ w ne on. subst (λ l. Contains l w) list on) (λ w ne on. subst (λ l. Contains l w) (sym list) on)
-      (λ j at on. absurd (free j at (subst (λ l. Contains l (member id j at)) list on))) (λ j at must. absurd must) h
+      (λ j at on. absurd (free j at (subst (λ l. Contains l (member_at id j at)) list on))) (λ j at must. absurd must) h
 
 -- ---- a version changed, and the list at its places
 
@@ -242,19 +242,19 @@ module _ (vs : List Version) (j : ℕ) (v : Version) (f : Version → Version) (
 module _ (m n : Memory) (id j : ℕ) (f : Version → Version) (k : KeptChain) (v : Version) (there : chain_at m id ≡ Some k) (number : IsVersionAt k.chain.versions j v) (is : n.chains ≡ on_chain id (on_shown (on_version_of j f)) m.chains) (h : IsRecency m) where
   -- it is enough to say of that version which of its objects are listed
   pub rule-version : AllPairs ◌≢◌ n.recency → ((w : Member) → (w.chain ≡ id → w.version ≡ j → ⊥) → Contains n.recency w → Contains m.recency w) → ((w : Member) → (w.chain ≡ id → w.version ≡ j → ⊥) → Contains m.recency w → Contains n.recency w)
-      → ((at : Option Pos) → Contains n.recency (member id j at) → (k.chain.kind ≡ Cache) × HasObject (f v) at × (IsUnderUpdate k.chain j → at ≢ Some end_position))
-      → ((at : Option Pos) → k.chain.kind ≡ Cache → HasObject (f v) at → at ≢ Some end_position → (IsUnderUpdate k.chain j → IsLastInner (f v) at → ⊥) → Contains n.recency (member id j at)) → IsRecency n
-  rule-version once fewer more may must = rule-put m n id (Some (on_shown (on_version_of j f) k)) (is ∙ ap (λ o. put id (option_map (on_shown (on_version_of j f)) o) m.chains) there) once
+      → ((at : Option Pos) → Contains n.recency (member_at id j at) → (k.chain.kind ≡ Cache) × HasObject (f v) at × (IsUnderUpdate k.chain j → at ≢ Some end_position))
+      → ((at : Option Pos) → k.chain.kind ≡ Cache → HasObject (f v) at → at ≢ Some end_position → (IsUnderUpdate k.chain j → IsLastInner (f v) at → ⊥) → Contains n.recency (member_at id j at)) → IsRecency n
+  rule-version once fewer more may must = rule-put m n id (Some (on_shown (on_version_of j f) k)) (is ∙ ap (λ o. put_at_number id (option_map (on_shown (on_version_of j f)) o) m.chains) there) once
       (λ w ne on. fewer w (λ e s. ne e) on) (λ w ne on. more w (λ e s. ne e) on)
       (λ i at on. elim (decided i j) [
-        | inl e ↦ let here = may at (subst (λ x. Contains n.recency (member id x at)) e on) in record {
+        | inl e ↦ let here = may at (subst (λ x. Contains n.recency (member_at id x at)) e on) in record {
           cached = here.0;
           version = f v;
           number = subst (λ x. IsVersionAt (on_version j f k.chain.versions) x (f v)) (sym e) (on-at k.chain.versions j v f number);
           object = here.1;
           settled = λ u. here.2 (u.0, ap suc (sym e) ∙ u.1 ∙ length-on j f k.chain.versions);
         }
-        | inr ne ↦ let p = at_there (λ x. MayBeListed x.chain i at) (chain_at m id) k (h.members (member id i at) (fewer (member id i at) (λ e s. ne s) on)) there in record {
+        | inr ne ↦ let p = at_there (λ x. MayBeListed x.chain i at) (chain_at m id) k (h.members (member_at id i at) (fewer (member_at id i at) (λ e s. ne s) on)) there in record {
           cached = p.cached;
           version = p.version;
           number = on-beside k.chain.versions j v f number i p.version ne p.number;
@@ -265,9 +265,9 @@ module _ (m n : Memory) (id j : ℕ) (f : Version → Version) (k : KeptChain) (
       (λ i at p. elim (decided i j) [
         | inl e ↦
             let version : p.version ≡ f v = one-at (on_version j f k.chain.versions) j p.version (f v) (subst (λ x. IsVersionAt (on_version j f k.chain.versions) x p.version) e p.number) (on-at k.chain.versions j v f number) in
-            subst (λ x. Contains n.recency (member id x at)) (sym e) (must at p.cached (subst (λ x. HasObject x at) version p.object) p.inner
+            subst (λ x. Contains n.recency (member_at id x at)) (sym e) (must at p.cached (subst (λ x. HasObject x at) version p.object) p.inner
             (λ u last. p.passed (u.0, ap suc e ∙ u.1 ∙ sym (length-on j f k.chain.versions)) (subst (λ x. IsLastInner x at) (sym version) last)))
-        | inr ne ↦ more (member id i at) (λ e s. ne s) (h.complete (member id i at) (there_at (λ x. MustBeListed x.chain i at) (chain_at m id) k (record {
+        | inr ne ↦ more (member_at id i at) (λ e s. ne s) (h.complete (member_at id i at) (there_at (λ x. MustBeListed x.chain i at) (chain_at m id) k (record {
           cached = p.cached;
           version = p.version;
           number = beside-on k.chain.versions j v f number i p.version ne p.number;

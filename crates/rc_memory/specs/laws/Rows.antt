@@ -14,7 +14,7 @@ use Rattle.rc_registry.specs.Entry.{Entry}
 use Rattle.rc_registry.specs.Flag.{Flag}
 use Rattle.rc_registry.specs.Mark.{Mark}
 use Rattle.rc_registry.specs.AtPlace.{HasEntryAt}
-use Rattle.rc_registry.specs.Change.{at_entry, changed, drop_at, dummy, lost_mark, split, split_by, take_out, with_first_gap, with_gap}
+use Rattle.rc_registry.specs.Change.{at_entry, drop_at, dummy, entry_changed, gap_split, lost_mark, split_by, take_out, with_first_gap, with_gap}
 use Rattle.rc_registry.specs.Continuity.{with_entries, without_statics}
 use Rattle.rc_registry.specs.Steps.{join_pt, on_version, set_flags, set_static_flag, set_tombs, with_flags, with_phase, with_tombs}
 use Rattle.rc_registry.specs.Version.{EndsWithDummy, Version, end_position}
@@ -82,8 +82,8 @@ keeps-flags x at gap = keeps-at x (with_flags at gap) (λ e. refl)
 pub keeps-tombs : (x : Pos) (at gap : Option Tomb) → KeepsRows (set_tombs x at gap)
 keeps-tombs x at gap = keeps-at x (with_tombs at gap) (λ e. refl)
 
-pub keeps-marks : (g : Mark → Mark) (from to : Pos) → KeepsRows (λ v. with_entries (map (changed g from to) v.entries) v)
-keeps-marks g from to = keeps-entries (changed g from to) (λ e. refl)
+pub keeps-marks : (g : Mark → Mark) (from to : Pos) → KeepsRows (λ v. with_entries (map (entry_changed g from to) v.entries) v)
+keeps-marks g from to = keeps-entries (entry_changed g from to) (λ e. refl)
 
 -- the partition tombstone, the flag of the static row, and the phase
 pub keeps-head : (tomb : Tomb) → KeepsRows (join_pt tomb)
@@ -144,17 +144,17 @@ within-dropped x v = record { entries = λ e on. inl (taken-within lost_mark x v
 pub within-undone : (v : Version) → IsWithin NoPosition v (without_statics v)
 within-undone v = record { entries = λ e on. inl (e, on, refl, refl); statics = λ row is. absurd (no_some row is) }
 
-split-within : (x : Pos) (es : List Entry) (e : Entry) → Contains (split x es) e → IsAlikeIn es e ⊎ ((e.position ≡ x) × (e.row ≡ None))
+split-within : (x : Pos) (es : List Entry) (e : Entry) → Contains (gap_split x es) e → IsAlikeIn es e ⊎ ((e.position ≡ x) × (e.row ≡ None))
 split-within x [] e on = absurd (elem-none e on)
 split-within x (f ∷ es) e on = told (pos_cmp x f.position) (λ k. split-within x es e k) on
   where
-    told : (r : Ordering) → (Contains (split x es) e → IsAlikeIn es e ⊎ ((e.position ≡ x) × (e.row ≡ None))) → Contains (split_by r x f es (split x es)) e → IsAlikeIn (f ∷ es) e ⊎ ((e.position ≡ x) × (e.row ≡ None))
+    told : (r : Ordering) → (Contains (gap_split x es) e → IsAlikeIn es e ⊎ ((e.position ≡ x) × (e.row ≡ None))) → Contains (split_by r x f es (gap_split x es)) e → IsAlikeIn (f ∷ es) e ⊎ ((e.position ≡ x) × (e.row ≡ None))
     told Less further h = elim (elem-cases (dummy x f.gap) e (f ∷ es) h) [
       | inl same ↦ inr (ap (λ (k : Entry). k.position) (sym same), ap (λ (k : Entry). k.row) (sym same))
       | inr old ↦ inl (e, old, refl, refl)
     ]
     told Equal further h = inl (e, h, refl, refl)
-    told Greater further h = elim (elem-cases f e (split x es) h) [
+    told Greater further h = elim (elem-cases f e (gap_split x es) h) [
       | inl same ↦ inl (f, elem-first f es, ap (λ (k : Entry). k.position) same, ap (λ (k : Entry). k.row) same)
       | inr later ↦ elim (further later) [
         | inl k ↦ inl (k.0, elem-later f k.0 es k.1, k.2, k.3)
@@ -162,7 +162,7 @@ split-within x (f ∷ es) e on = told (pos_cmp x f.position) (λ k. split-within
       ]
     ]
 
-pub within-split : (x : Pos) (v : Version) → IsWithin (λ y. y ≡ x) v (with_entries (split x v.entries) v)
+pub within-split : (x : Pos) (v : Version) → IsWithin (λ y. y ≡ x) v (with_entries (gap_split x v.entries) v)
 within-split x v = record { entries = λ e on. split-within x v.entries e on; statics = λ row is. is }
 
 -- ---- what fits still does
@@ -206,8 +206,8 @@ fit-changed S j f may fits vs less h = fit-within S may fits vs (on_version j f 
   | inr made ↦ (made.0, made.1, subst (IsWithin may made.0) made.2 (less made.0))
 ]) h
 
-pub fit-split : (S j : ℕ) (x : Pos) (vs : List Version) → dummy_size x ≤ S / 8 → FitTogether S vs → FitTogether S (on_version j (λ c. with_entries (split x c.entries) c) vs)
-fit-split S j x vs fits h = fit-changed S j (λ c. with_entries (split x c.entries) c) (λ y. y ≡ x) (λ y e. subst (λ z. dummy_size z ≤ S / 8) (sym e) fits) vs (within-split x) h
+pub fit-split : (S j : ℕ) (x : Pos) (vs : List Version) → dummy_size x ≤ S / 8 → FitTogether S vs → FitTogether S (on_version j (λ c. with_entries (gap_split x c.entries) c) vs)
+fit-split S j x vs fits h = fit-changed S j (λ c. with_entries (gap_split x c.entries) c) (λ y. y ≡ x) (λ y e. subst (λ z. dummy_size z ≤ S / 8) (sym e) fits) vs (within-split x) h
 
 -- ---- an entry that is taken out is not the last one before the end, or another one is that then
 

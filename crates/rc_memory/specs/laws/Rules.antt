@@ -12,12 +12,12 @@ use Rattle.rc_registry.specs.ChainKind.TheVariants.{Cache}
 use Rattle.rc_registry.specs.Entry.{Entry}
 use Rattle.rc_registry.specs.Flag.{Flag}
 use Rattle.rc_registry.specs.Chains.{Shown, IsPinned}
-use Rattle.rc_registry.specs.Steps.{all_but, on_version, pinned, released, renumbered, version_of}
+use Rattle.rc_registry.specs.Steps.{all_but, number_after_removal, on_version, pins_with, pins_without, version_of}
 use Rattle.rc_registry.specs.Version.{Version, end_position}
 use Rattle.rc_registry.specs.Merged.{pin_of}
 use Rattle.rc_registry.specs.Pins.{pinned-or-new, released-pin}
 use Rattle.rc_partition.specs.laws.Lists.{elem-cases, elem-first, elem-none, elem-pushed}
-use Rattle.rc_registry.specs.Registry.{put}
+use Rattle.rc_registry.specs.Registry.{put_at_number}
 use Rattle.rc_memory.specs.Memory.{KeptChain, on_chain, on_version_of, shown_detached, shown_pinned, shown_updating, shown_with, shown_without}
 use Rattle.rc_memory.specs.Kept.{IsSoundChain}
 use Rattle.rc_memory.specs.Room.{FitTogether, HasRowAt, HasStaticRow}
@@ -27,9 +27,9 @@ use Rattle.rc_memory.specs.laws.Put.{put-at, put-beside}
 -- ---- each chain
 
 module _ (P : KeptChain → Type 0) where
-  pub each-put : (cs : List (Option KeptChain)) (id : ℕ) (c : Option KeptChain) → ((n : ℕ) → IfSome (slice_index_or cs n None) P) → IfSome c P → (n : ℕ) → IfSome (slice_index_or (put id c cs) n None) P
+  pub each-put : (cs : List (Option KeptChain)) (id : ℕ) (c : Option KeptChain) → ((n : ℕ) → IfSome (slice_index_or cs n None) P) → IfSome c P → (n : ℕ) → IfSome (slice_index_or (put_at_number id c cs) n None) P
   each-put cs id c all one n = elim (decided n id) [
-    | inl e ↦ subst (λ o. IfSome o P) (sym (ap (λ k. slice_index_or (put id c cs) k None) e ∙ put-at cs id c)) one
+    | inl e ↦ subst (λ o. IfSome o P) (sym (ap (λ k. slice_index_or (put_at_number id c cs) k None) e ∙ put-at cs id c)) one
     | inr ne ↦ subst (λ o. IfSome o P) (sym (put-beside cs id c n ne)) (all n)
   ]
 
@@ -48,7 +48,7 @@ module _ (P : KeptChain → Type 0) where
 -- ---- sound chains
 
 module _ (c : Shown) (h : IsSoundChain c) where
-  pub sound-pinned : (version : ℕ) → version < length c.versions → (c.updating ≡ true → suc version < length c.versions) → IsSoundChain (shown_pinned (pinned version c.pins) c)
+  pub sound-pinned : (version : ℕ) → version < length c.versions → (c.updating ≡ true → suc version < length c.versions) → IsSoundChain (shown_pinned (pins_with version c.pins) c)
   sound-pinned version low inner = record {
     some = h.some;
     pins = λ j on. elim (pinned-or-new version c.pins j on) [ inl before ↦ h.pins j before | inr this ↦ subst (λ n. n < length c.versions) (sym this) low ];
@@ -58,7 +58,7 @@ module _ (c : Shown) (h : IsSoundChain c) where
     unpinned = λ u j on. elim (pinned-or-new version c.pins j on) [ inl before ↦ h.unpinned u j before | inr this ↦ subst (λ n. suc n < length c.versions) (sym this) (inner u) ];
   }
 
-  pub sound-released : (pin : ℕ) → IsSoundChain (shown_pinned (released pin c.pins) c)
+  pub sound-released : (pin : ℕ) → IsSoundChain (shown_pinned (pins_without pin c.pins) c)
   sound-released pin = record {
     some = h.some;
     pins = λ j on. h.pins j (released-pin pin c.pins j on);
@@ -113,7 +113,7 @@ length-but j [] low = absurd (omega (arith, low))
 length-but zero (v ∷ vs) low = refl
 length-but (suc j) (v ∷ vs) low = ap suc (length-but j vs (omega (arith, low)))
 
-pub renumbered-less : (n k : ℕ) → k ≢ n → (k < n → renumbered n k ≡ k) × (n < k → suc (renumbered n k) ≡ k)
+pub renumbered-less : (n k : ℕ) → k ≢ n → (k < n → number_after_removal n k ≡ k) × (n < k → suc (number_after_removal n k) ≡ k)
 renumbered-less zero zero ne = absurd (ne refl)
 renumbered-less zero (suc k) ne = ((λ l. absurd (omega (arith, l))), (λ l. refl))
 renumbered-less (suc n) zero ne = ((λ l. refl), (λ l. absurd (omega (arith, l))))

@@ -14,10 +14,10 @@ use Rattle.rc_registry.specs.Version.{Version}
 use Rattle.rc_partition.specs.Versions.{IsKeptBeside, IsKeptBut, IsVersionOf, MayChange}
 use Rattle.rc_partition.specs.Marked.{marked-itself, marked-objects, marked-then}
 use Rattle.rc_partition.specs.Partitions.{PartitionEntry, StandingVersion, partition_of, standing}
-use Rattle.rc_registry.specs.Registry.{Registry, put}
+use Rattle.rc_registry.specs.Registry.{Registry, put_at_number}
 use Rattle.rc_memory.specs.declared.counts.Counts.{Counts}
 use Rattle.rc_memory.specs.Memory.{Member, Memory, IsObjectAt, IsOfVersion, IsVersionAt, listed_as, on_chain, on_shown, on_version_of, version_changed}
-use Rattle.rc_memory.specs.Changes.{IsUnmoved, IsVersionChanged, Nowhere, StandStill, member}
+use Rattle.rc_memory.specs.Changes.{IsUnmoved, IsVersionChanged, Nowhere, StandStill, member_at}
 use Rattle.rc_memory.specs.Kept.{HoldMemory}
 use Rattle.rc_memory.specs.laws.At.{number-mapped}
 use Rattle.rc_memory.specs.laws.Changed.{object_after, standing-is, user}
@@ -103,10 +103,10 @@ module _ (slots : Slots) (old new : View) (registry : Registry) (counts : Counts
   ]
 
   still_versions : (i k : ℕ) (n : Ref) → IsSomeAnd (slice_index_or m.standing i None) (λ q. (t : StandingVersion) × IsVersionAt q.versions k t × (t.object ≡ n))
-      → IsSomeAnd (slice_index_or (put id (Some (partition_of p.root (number.older ++ (standing s.object now c ∷ number.newer)))) m.standing) i None) (λ q. (t : StandingVersion) × IsVersionAt q.versions k t × (t.object ≡ n))
+      → IsSomeAnd (slice_index_or (put_at_number id (Some (partition_of p.root (number.older ++ (standing s.object now c ∷ number.newer)))) m.standing) i None) (λ q. (t : StandingVersion) × IsVersionAt q.versions k t × (t.object ≡ n))
   still_versions i k n is = elim (decided i id) [
     | inl here ↦ subst (λ (o : Option PartitionEntry). IsSomeAnd o (λ q. (t : StandingVersion) × IsVersionAt q.versions k t × (t.object ≡ n)))
-        (sym (ap (λ x. slice_index_or (put id (Some (partition_of p.root (number.older ++ (standing s.object now c ∷ number.newer)))) m.standing) x None) here ∙ put-at m.standing id (Some (partition_of p.root (number.older ++ (standing s.object now c ∷ number.newer))))))
+        (sym (ap (λ x. slice_index_or (put_at_number id (Some (partition_of p.root (number.older ++ (standing s.object now c ∷ number.newer)))) m.standing) x None) here ∙ put-at m.standing id (Some (partition_of p.root (number.older ++ (standing s.object now c ∷ number.newer))))))
         (same_version k n (subst (λ (o : Option PartitionEntry). IsSomeAnd o (λ q. (t : StandingVersion) × IsVersionAt q.versions k t × (t.object ≡ n))) (ap (λ x. slice_index_or m.standing x None) here ∙ there) is))
     | inr ne ↦ subst (λ (o : Option PartitionEntry). IsSomeAnd o (λ q. (t : StandingVersion) × IsVersionAt q.versions k t × (t.object ≡ n)))
         (sym (put-beside m.standing id (Some (partition_of p.root (number.older ++ (standing s.object now c ∷ number.newer)))) i ne)) is
@@ -118,13 +118,13 @@ module _ (slots : Slots) (old new : View) (registry : Registry) (counts : Counts
       let u = user slots old new registry counts m h id j p s there number now c in let versions = map (λ (t : StandingVersion). t.version) p.versions in
       let at = number-mapped (λ (t : StandingVersion). t.version) p.versions j s number in
       let same : on_version j (λ v. c) versions ≡ on_version j f versions = on-is versions j s.version (λ v. c) at ∙ ap (λ v. at.older ++ (v ∷ at.newer)) is ∙ sym (on-is versions j s.version f at) in
-      ap (λ o. put id (option_map (on_shown (on_version_of j (λ v. c))) o) m.chains) u.chain
-      ∙ ap (λ (vs : List Version). put id (Some (record { chain = record { kind = u.used.kind; versions = vs; attached = u.used.attached; updating = u.used.updating; pins = u.used.pins }; passed = u.used.passed })) m.chains) same
-      ∙ sym (ap (λ o. put id (option_map (on_shown (on_version_of j f)) o) m.chains) u.chain)
+      ap (λ o. put_at_number id (option_map (on_shown (on_version_of j (λ v. c))) o) m.chains) u.chain
+      ∙ ap (λ (vs : List Version). put_at_number id (Some (record { chain = record { kind = u.used.kind; versions = vs; attached = u.used.attached; updating = u.used.updating; pins = u.used.pins }; passed = u.used.passed })) m.chains) same
+      ∙ sym (ap (λ o. put_at_number id (option_map (on_shown (on_version_of j f)) o) m.chains) u.chain)
 
   module _ (kept_but : IsKeptBut s.object old new) (is : IsVersionOf new s.object now c) where
     -- where the objects of that version stand where they stood, but at some places, so do those of all chains
-    pub still-changed : (these : Member → Type 0) → ((at : Option Pos) (r : Ref) → (these (member id j at) → ⊥) → IsOfVersion old s at r → IsOfVersion new (standing s.object now c) at r)
+    pub still-changed : (these : Member → Type 0) → ((at : Option Pos) (r : Ref) → (these (member_at id j at) → ⊥) → IsOfVersion old s at r → IsOfVersion new (standing s.object now c) at r)
         → StandStill these m (version_changed id j (standing s.object now c) new m)
     still-changed these rows = record {
       versions = λ i k n at. subst (λ (st : List (Option PartitionEntry)). IsSomeAnd (slice_index_or st i None) (λ q. (t : StandingVersion) × IsVersionAt q.versions k t × (t.object ≡ n)))
@@ -136,7 +136,7 @@ module _ (slots : Slots) (old new : View) (registry : Registry) (counts : Counts
     }
 
     -- so that version alone is another one
-    pub is-changed : (f : Version → Version) (these : Member → Type 0) → c ≡ f s.version → ((at : Option Pos) (r : Ref) → (these (member id j at) → ⊥) → IsOfVersion old s at r → IsOfVersion new (standing s.object now c) at r)
+    pub is-changed : (f : Version → Version) (these : Member → Type 0) → c ≡ f s.version → ((at : Option Pos) (r : Ref) → (these (member_at id j at) → ⊥) → IsOfVersion old s at r → IsOfVersion new (standing s.object now c) at r)
         → IsVersionChanged id j f these m (version_changed id j (standing s.object now c) new m)
     is-changed f these does rows = record {
       chains = changed-chains f does;

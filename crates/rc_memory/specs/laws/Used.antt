@@ -5,8 +5,8 @@ use Rattle.lsa_region.specs.Region.{View}
 use Rattle.rc_partition.specs.List.{List as Slots}
 use Rattle.rc_partition.specs.Partitions.{PartitionEntry}
 use Rattle.rc_registry.specs.declared.uses.Use.{Use}
-use Rattle.rc_registry.specs.Registry.{Registry, put, on_use, detached, set_updating, set_passed, with_pin, without_pin}
-use Rattle.rc_registry.specs.Steps.{pinned, released}
+use Rattle.rc_registry.specs.Registry.{Registry, put_at_number, on_use, detached_use, set_updating, set_passed, with_pin, without_pin}
+use Rattle.rc_registry.specs.Steps.{pins_with, pins_without}
 use Rattle.rc_memory.specs.declared.counts.Counts.{Counts}
 use Rattle.rc_memory.specs.Memory.{KeptChain, Memory, HasChain, mark_passed, on_chain, on_shown, shown_detached, shown_pinned, shown_updating, with_chains}
 use Rattle.rc_memory.specs.Kept.{AreKept, HoldMemory, IsKeptChain, chain_of_use}
@@ -20,7 +20,7 @@ module _ (f : Use → Use) (g : KeptChain → KeptChain) (root : (u : Use) → (
   kept_used (Some u) (Some p) c h = (h.0 ∙ sym (root u), ap (option_map g) h.1 ∙ ap (λ k. Some k) (sym (does u p)))
 
   are_kept_used : (us : List (Option Use)) (ps : List (Option PartitionEntry)) (cs : List (Option KeptChain)) (id : ℕ) → AreKept us ps cs → IsSome (slice_index_or cs id None)
-      → AreKept (put id (option_map f (slice_index_or us id None)) us) ps (put id (option_map g (slice_index_or cs id None)) cs)
+      → AreKept (put_at_number id (option_map f (slice_index_or us id None)) us) ps (put_at_number id (option_map g (slice_index_or cs id None)) cs)
   are_kept_used [] [] [] id h some = cc some
   are_kept_used [] [] (c ∷ cs) id h some = absurd h
   are_kept_used [] (p ∷ ps) cs id h some = absurd h
@@ -44,8 +44,8 @@ module _ (slots : Slots) (v : View) (registry : Registry) (counts : Counts) (m :
     roots = h.roots ∙ ap (λ n. 2 + n) (sym (length-same m.chains id g));
   }
 
-  pub held-detached : HoldMemory slots v (on_use id detached registry) counts (with_chains (on_chain id (on_shown shown_detached) m.chains) m)
-  held-detached = held-used detached (on_shown shown_detached) (λ u. refl) (λ u p. refl)
+  pub held-detached : HoldMemory slots v (on_use id detached_use registry) counts (with_chains (on_chain id (on_shown shown_detached) m.chains) m)
+  held-detached = held-used detached_use (on_shown shown_detached) (λ u. refl) (λ u p. refl)
 
   pub held-updating : (updating : Bool) → HoldMemory slots v (on_use id (set_updating updating) registry) counts (with_chains (on_chain id (on_shown (shown_updating updating)) m.chains) m)
   held-updating updating = held-used (set_updating updating) (on_shown (shown_updating updating)) (λ u. refl) (λ u p. refl)
@@ -53,8 +53,8 @@ module _ (slots : Slots) (v : View) (registry : Registry) (counts : Counts) (m :
   pub held-passed : (passed : Bool) → HoldMemory slots v (on_use id (set_passed passed) registry) counts (with_chains (on_chain id (mark_passed passed) m.chains) m)
   held-passed passed = held-used (set_passed passed) (mark_passed passed) (λ u. refl) (λ u p. refl)
 
-  pub held-pinned : (version : ℕ) → HoldMemory slots v (on_use id (with_pin version) registry) counts (with_chains (on_chain id (on_shown (λ c. shown_pinned (pinned version c.pins) c)) m.chains) m)
-  held-pinned version = held-used (with_pin version) (on_shown (λ c. shown_pinned (pinned version c.pins) c)) (λ u. refl) (λ u p. refl)
+  pub held-pinned : (version : ℕ) → HoldMemory slots v (on_use id (with_pin version) registry) counts (with_chains (on_chain id (on_shown (λ c. shown_pinned (pins_with version c.pins) c)) m.chains) m)
+  held-pinned version = held-used (with_pin version) (on_shown (λ c. shown_pinned (pins_with version c.pins) c)) (λ u. refl) (λ u p. refl)
 
-  pub held-released : (pin : ℕ) → HoldMemory slots v (on_use id (without_pin pin) registry) counts (with_chains (on_chain id (on_shown (λ c. shown_pinned (released pin c.pins) c)) m.chains) m)
-  held-released pin = held-used (without_pin pin) (on_shown (λ c. shown_pinned (released pin c.pins) c)) (λ u. refl) (λ u p. refl)
+  pub held-released : (pin : ℕ) → HoldMemory slots v (on_use id (without_pin pin) registry) counts (with_chains (on_chain id (on_shown (λ c. shown_pinned (pins_without pin c.pins) c)) m.chains) m)
+  held-released pin = held-used (without_pin pin) (on_shown (λ c. shown_pinned (pins_without pin c.pins) c)) (λ u. refl) (λ u p. refl)

@@ -9,7 +9,7 @@ use Rattle.lsa_region.specs.declared.end.End.TheVariants.{Obj}
 use Rattle.lsa_region.specs.Ends.{SlotCounts}
 use Rattle.lsa_region.specs.Region.{View, link_of, slots_of, IsWell}
 use Rattle.rc_partition.specs.List.{List as Slots}
-use Rattle.rc_registry.specs.Steps.{all_but, renumbered}
+use Rattle.rc_registry.specs.Steps.{all_but, number_after_removal}
 use Rattle.rc_registry.specs.Version.{Version}
 use Rattle.rc_partition.specs.Versions.{IsUnlisted, IsVersionOf, MayChange}
 use Rattle.rc_partition.specs.Staying.{kept-same}
@@ -17,7 +17,7 @@ use Rattle.rc_partition.specs.Partitions.{AreStanding, IsRowOfVersion, Partition
 use Rattle.rc_partition.specs.laws.Apart.{one-version}
 use Rattle.rc_partition.specs.laws.Changed.{beside-differs, other-among, other-differs, this-among}
 use Rattle.rc_partition.specs.laws.Lists.{elem-here, elem-replaced, elem-still}
-use Rattle.rc_registry.specs.Registry.{Registry, on_use, put, without_version}
+use Rattle.rc_registry.specs.Registry.{Registry, on_use, put_at_number, without_version}
 use Rattle.rc_memory.specs.declared.counts.Counts.{Counts}
 use Rattle.rc_memory.specs.Memory.{Member, Memory, IsObjectAt, IsOfVersion, IsVersionAt, more_versions, fewer_versions, on_chain, on_shown, partition_and, partition_without, renumbered_member, shown_without, shown_with}
 use Rattle.rc_memory.specs.Kept.{AreKept, HoldMemory, StandAt, chain_of_use, present}
@@ -45,7 +45,7 @@ module _ {X : Type 0} where
   all-but-is (o ∷ older) s newer zero e = cc e
   all-but-is (o ∷ older) s newer (suc j) e = ap (λ l. o ∷ l) (all-but-is older s newer j (cc e))
 
-  pub without-at : (older newer : List X) (s x : X) (olds news : List X) → older ++ (s ∷ newer) ≡ olds ++ (x ∷ news) → length olds ≢ length older → IsVersionAt (older ++ newer) (renumbered (length older) (length olds)) x
+  pub without-at : (older newer : List X) (s x : X) (olds news : List X) → older ++ (s ∷ newer) ≡ olds ++ (x ∷ news) → length olds ≢ length older → IsVersionAt (older ++ newer) (number_after_removal (length older) (length olds)) x
   without-at [] newer s x [] news e ne = absurd (ne refl)
   without-at [] newer s x (y ∷ olds) news e ne = record { older = olds; newer = news; split = tails s y newer (olds ++ (x ∷ news)) e; number = refl }
   without-at (o ∷ older) newer s x [] news e ne = record { older = []; newer = older ++ newer; split = ap (λ z. z ∷ (older ++ newer)) (heads o x (older ++ (s ∷ newer)) news e); number = refl }
@@ -72,40 +72,40 @@ module _ (slots : Slots) (old new : View) (registry : Registry) (counts : Counts
   more : IsUsedAs registry.uses m.chains id p
   more = used-at registry.uses m.standing m.chains id p h.kept there
 
-  more_standing : put id (option_map (partition_and t) (slice_index_or m.standing id None)) m.standing ≡ put id (Some (partition_of p.root (p.versions ++ (t ∷ [])))) m.standing
-  more_standing = ap (λ o. put id (option_map (partition_and t) o) m.standing) there
+  more_standing : put_at_number id (option_map (partition_and t) (slice_index_or m.standing id None)) m.standing ≡ put_at_number id (Some (partition_of p.root (p.versions ++ (t ∷ [])))) m.standing
+  more_standing = ap (λ o. put_at_number id (option_map (partition_and t) o) m.standing) there
 
-  more_chains : on_chain id (on_shown (λ c. shown_with (c.versions ++ (t.version ∷ [])) c)) m.chains ≡ put id (Some (chain_of_use more.used (partition_of p.root (p.versions ++ (t ∷ []))))) m.chains
-  more_chains = ap (λ o. put id (option_map (on_shown (λ c. shown_with (c.versions ++ (t.version ∷ [])) c)) o) m.chains) more.chain
-      ∙ ap (λ (vs : List Version). put id (Some (record { chain = record { kind = more.used.kind; versions = vs; attached = more.used.attached; updating = more.used.updating; pins = more.used.pins }; passed = more.used.passed })) m.chains)
+  more_chains : on_chain id (on_shown (λ c. shown_with (c.versions ++ (t.version ∷ [])) c)) m.chains ≡ put_at_number id (Some (chain_of_use more.used (partition_of p.root (p.versions ++ (t ∷ []))))) m.chains
+  more_chains = ap (λ o. put_at_number id (option_map (on_shown (λ c. shown_with (c.versions ++ (t.version ∷ [])) c)) o) m.chains) more.chain
+      ∙ ap (λ (vs : List Version). put_at_number id (Some (record { chain = record { kind = more.used.kind; versions = vs; attached = more.used.attached; updating = more.used.updating; pins = more.used.pins }; passed = more.used.passed })) m.chains)
       (sym (map-append (λ (s : StandingVersion). s.version) p.versions (t ∷ [])))
 
-  more_stands : AreStanding slots new (present (put id (Some (partition_of p.root (p.versions ++ (t ∷ [])))) m.standing)) h.listed
+  more_stands : AreStanding slots new (present (put_at_number id (Some (partition_of p.root (p.versions ++ (t ∷ [])))) m.standing)) h.listed
   more_stands = subst (λ ps. AreStanding slots new ps h.listed) (sym ((placed m.standing id).with_one (partition_of p.root (p.versions ++ (t ∷ []))))) stands
 
   module _ (r : Ref) (w : Member) (a : IsObjectAt old m.standing r w) where
     was : IsVersionOf old a.version.object a.version.entries a.version.version
     was = version-there slots old h.well m.standing h.listed h.stands w.chain w.version a.partition a.version a.chain a.number
 
-    stays_at : (q : PartitionEntry) → slice_index_or (put id (Some (partition_of p.root (p.versions ++ (t ∷ [])))) m.standing) w.chain None ≡ Some q → IsVersionAt q.versions w.version a.version
-        → IsObjectAt new (put id (Some (partition_of p.root (p.versions ++ (t ∷ [])))) m.standing) r w
+    stays_at : (q : PartitionEntry) → slice_index_or (put_at_number id (Some (partition_of p.root (p.versions ++ (t ∷ [])))) m.standing) w.chain None ≡ Some q → IsVersionAt q.versions w.version a.version
+        → IsObjectAt new (put_at_number id (Some (partition_of p.root (p.versions ++ (t ∷ [])))) m.standing) r w
     stays_at q chain number = record {
       partition = q;
       version = a.version;
       chain = chain;
       number = number;
       object = of-stays old new a.version was
-          (version-there slots new well (put id (Some (partition_of p.root (p.versions ++ (t ∷ [])))) m.standing) h.listed more_stands w.chain w.version q a.version chain number)
+          (version-there slots new well (put_at_number id (Some (partition_of p.root (p.versions ++ (t ∷ [])))) m.standing) h.listed more_stands w.chain w.version q a.version chain number)
           (statics a.version.object a.version.entries a.version.version was) w.position r a.object;
     }
 
-    still_object : IsObjectAt new (put id (Some (partition_of p.root (p.versions ++ (t ∷ [])))) m.standing) r w
+    still_object : IsObjectAt new (put_at_number id (Some (partition_of p.root (p.versions ++ (t ∷ [])))) m.standing) r w
     still_object = elim (decided w.chain id) [
       | inr ne ↦ stays_at a.partition (put-beside m.standing id (Some (partition_of p.root (p.versions ++ (t ∷ [])))) w.chain ne ∙ a.chain) a.number
       | inl here ↦
           let same_p = same_some a.partition p (sym a.chain ∙ ap (λ n. slice_index_or m.standing n None) here ∙ there) in
           stays_at (partition_of p.root (p.versions ++ (t ∷ [])))
-          (ap (λ n. slice_index_or (put id (Some (partition_of p.root (p.versions ++ (t ∷ [])))) m.standing) n None) here ∙ put-at m.standing id (Some (partition_of p.root (p.versions ++ (t ∷ [])))))
+          (ap (λ n. slice_index_or (put_at_number id (Some (partition_of p.root (p.versions ++ (t ∷ [])))) m.standing) n None) here ∙ put-at m.standing id (Some (partition_of p.root (p.versions ++ (t ∷ [])))))
           (still-at p.versions (t ∷ []) w.version a.version (subst (λ (q : PartitionEntry). IsVersionAt q.versions w.version a.version) same_p a.number))
     ]
 
@@ -114,13 +114,13 @@ module _ (slots : Slots) (old new : View) (registry : Registry) (counts : Counts
     well = well;
     region = refl;
     kept = subst (λ ps. AreKept registry.uses ps (on_chain id (on_shown (λ c. shown_with (c.versions ++ (t.version ∷ [])) c)) m.chains)) (sym more_standing)
-        (subst (AreKept registry.uses (put id (Some (partition_of p.root (p.versions ++ (t ∷ [])))) m.standing)) (sym more_chains)
-        (subst (λ us. AreKept us (put id (Some (partition_of p.root (p.versions ++ (t ∷ [])))) m.standing) (put id (Some (chain_of_use more.used (partition_of p.root (p.versions ++ (t ∷ []))))) m.chains)) (put-same registry.uses id more.used more.at)
+        (subst (AreKept registry.uses (put_at_number id (Some (partition_of p.root (p.versions ++ (t ∷ [])))) m.standing)) (sym more_chains)
+        (subst (λ us. AreKept us (put_at_number id (Some (partition_of p.root (p.versions ++ (t ∷ [])))) m.standing) (put_at_number id (Some (chain_of_use more.used (partition_of p.root (p.versions ++ (t ∷ []))))) m.chains)) (put-same registry.uses id more.used more.at)
         (kept-put registry.uses m.standing m.chains id (Some more.used) (Some (partition_of p.root (p.versions ++ (t ∷ [])))) (Some (chain_of_use more.used (partition_of p.root (p.versions ++ (t ∷ []))))) h.kept (more.root, refl))));
     listed = h.listed;
     stands = subst (λ st. AreStanding slots new (present st) h.listed) (sym more_standing) more_stands;
     recency = subst (λ st. StandAt new st h.listed m.recency) (sym more_standing)
-        (stand-each old new m.standing (put id (Some (partition_of p.root (p.versions ++ (t ∷ [])))) m.standing) h.listed m.recency (λ r w in_refs on a. still_object r w a) h.recency);
+        (stand-each old new m.standing (put_at_number id (Some (partition_of p.root (p.versions ++ (t ∷ [])))) m.standing) h.listed m.recency (λ r w in_refs on a. still_object r w a) h.recency);
     dropped = h.dropped;
     counted = h.counted;
     roots = ap (λ (k : SlotCounts). k.there) same_slots ∙ h.roots ∙ ap (λ k. 2 + k) (sym (length-same m.chains id (on_shown (λ c. shown_with (c.versions ++ (t.version ∷ [])) c))));
@@ -141,8 +141,8 @@ module _ (slots : Slots) (old new : View) (registry : Registry) (counts : Counts
     less-is : partition_without j p ≡ partition_of p.root (number.older ++ number.newer)
     less-is = ap (λ vs. partition_of p.root vs) (ap (λ l. take j l ++ drop (suc j) l) number.split ∙ all-but-is number.older s number.newer j number.number)
 
-    less_standing : put id (option_map (partition_without j) (slice_index_or m.standing id None)) m.standing ≡ put id (Some (partition_of p.root (number.older ++ number.newer))) m.standing
-    less_standing = ap (λ o. put id (option_map (partition_without j) o) m.standing) there ∙ ap (λ q. put id (Some q) m.standing) less-is
+    less_standing : put_at_number id (option_map (partition_without j) (slice_index_or m.standing id None)) m.standing ≡ put_at_number id (Some (partition_of p.root (number.older ++ number.newer))) m.standing
+    less_standing = ap (λ o. put_at_number id (option_map (partition_without j) o) m.standing) there ∙ ap (λ q. put_at_number id (Some q) m.standing) less-is
 
     less_versions : all_but j (map (λ (t : StandingVersion). t.version) p.versions) ≡ map (λ (t : StandingVersion). t.version) (number.older ++ number.newer)
     less_versions = ap (λ l. all_but j (map (λ (t : StandingVersion). t.version) l)) number.split
@@ -150,17 +150,17 @@ module _ (slots : Slots) (old new : View) (registry : Registry) (counts : Counts
         ∙ all-but-is (map (λ (t : StandingVersion). t.version) number.older) s.version (map (λ (t : StandingVersion). t.version) number.newer) j (map_length number.older ∙ number.number)
         ∙ sym (map-append (λ (t : StandingVersion). t.version) number.older number.newer)
 
-    less_chains : on_chain id (on_shown (shown_without j)) m.chains ≡ put id (Some (chain_of_use (without_version j less.used) (partition_of p.root (number.older ++ number.newer)))) m.chains
-    less_chains = ap (λ o. put id (option_map (on_shown (shown_without j)) o) m.chains) less.chain
-        ∙ ap (λ (vs : List Version). put id (Some (record {
-          chain = record { kind = less.used.kind; versions = vs; attached = less.used.attached; updating = less.used.updating; pins = map (option_map (renumbered j)) less.used.pins };
+    less_chains : on_chain id (on_shown (shown_without j)) m.chains ≡ put_at_number id (Some (chain_of_use (without_version j less.used) (partition_of p.root (number.older ++ number.newer)))) m.chains
+    less_chains = ap (λ o. put_at_number id (option_map (on_shown (shown_without j)) o) m.chains) less.chain
+        ∙ ap (λ (vs : List Version). put_at_number id (Some (record {
+          chain = record { kind = less.used.kind; versions = vs; attached = less.used.attached; updating = less.used.updating; pins = map (option_map (number_after_removal j)) less.used.pins };
           passed = less.used.passed;
         })) m.chains) less_versions
 
-    less_uses : put id (Some (without_version j less.used)) registry.uses ≡ put id (option_map (without_version j) (slice_index_or registry.uses id None)) registry.uses
-    less_uses = ap (λ o. put id (option_map (without_version j) o) registry.uses) (sym less.at)
+    less_uses : put_at_number id (Some (without_version j less.used)) registry.uses ≡ put_at_number id (option_map (without_version j) (slice_index_or registry.uses id None)) registry.uses
+    less_uses = ap (λ o. put_at_number id (option_map (without_version j) o) registry.uses) (sym less.at)
 
-    less_stands : AreStanding slots new (present (put id (Some (partition_of p.root (number.older ++ number.newer))) m.standing)) h.listed
+    less_stands : AreStanding slots new (present (put_at_number id (Some (partition_of p.root (number.older ++ number.newer))) m.standing)) h.listed
     less_stands = subst (λ ps. AreStanding slots new ps h.listed) (sym ((placed m.standing id).with_one (partition_of p.root (number.older ++ number.newer)))) stands
 
     s_stands : IsVersionOf old s.object s.entries s.version
@@ -190,38 +190,38 @@ module _ (slots : Slots) (old new : View) (registry : Registry) (counts : Counts
       this_place : a.version.object ≡ s.object → (w.chain ≡ id) × (w.version ≡ j)
       this_place e = version-place slots old h.well m.standing h.listed h.stands w.chain id w.version j a.partition p a.version s a.chain there a.number number e
 
-      renumbered_to : (q : PartitionEntry) (k : ℕ) → a.version.object ≢ s.object → slice_index_or (put id (Some (partition_of p.root (number.older ++ number.newer))) m.standing) w.chain None ≡ Some q → IsVersionAt q.versions k a.version
-          → IsObjectAt new (put id (Some (partition_of p.root (number.older ++ number.newer))) m.standing) r (record { chain = w.chain; version = k; position = w.position })
+      renumbered_to : (q : PartitionEntry) (k : ℕ) → a.version.object ≢ s.object → slice_index_or (put_at_number id (Some (partition_of p.root (number.older ++ number.newer))) m.standing) w.chain None ≡ Some q → IsVersionAt q.versions k a.version
+          → IsObjectAt new (put_at_number id (Some (partition_of p.root (number.older ++ number.newer))) m.standing) r (record { chain = w.chain; version = k; position = w.position })
       renumbered_to q k ne chain at = record {
         partition = q;
         version = a.version;
         chain = chain;
         number = at;
         object = of-stays old new a.version stood
-            (version-there slots new well (put id (Some (partition_of p.root (number.older ++ number.newer))) m.standing) h.listed less_stands w.chain k q a.version chain at)
+            (version-there slots new well (put_at_number id (Some (partition_of p.root (number.older ++ number.newer))) m.standing) h.listed less_stands w.chain k q a.version chain at)
             (statics a.version.object a.version.entries a.version.version ne stood) w.position r a.object;
       }
 
-      named : (b : Bool) → nat_eq w.chain id ≡ b → record { chain = w.chain; version = cond b (renumbered j w.version) w.version; position = w.position } ≡ renumbered_member id j w
-      named b e = λ i. record { chain = w.chain; version = cond (sym e i) (renumbered j w.version) w.version; position = w.position }
+      named : (b : Bool) → nat_eq w.chain id ≡ b → record { chain = w.chain; version = cond b (number_after_removal j w.version) w.version; position = w.position } ≡ renumbered_member id j w
+      named b e = λ i. record { chain = w.chain; version = cond (sym e i) (number_after_removal j w.version) w.version; position = w.position }
 
-      less_object : IsObjectAt new (put id (Some (partition_of p.root (number.older ++ number.newer))) m.standing) r (renumbered_member id j w)
+      less_object : IsObjectAt new (put_at_number id (Some (partition_of p.root (number.older ++ number.newer))) m.standing) r (renumbered_member id j w)
       less_object = elim (decided w.chain id) [
-        | inr ne ↦ subst (IsObjectAt new (put id (Some (partition_of p.root (number.older ++ number.newer))) m.standing) r) (named false (ne_eqb w.chain id ne))
+        | inr ne ↦ subst (IsObjectAt new (put_at_number id (Some (partition_of p.root (number.older ++ number.newer))) m.standing) r) (named false (ne_eqb w.chain id ne))
             (renumbered_to a.partition w.version (λ e. ne (this_place e).0) (put-beside m.standing id (Some (partition_of p.root (number.older ++ number.newer))) w.chain ne ∙ a.chain) a.number)
         | inl here ↦ in_chain here
       ] where
-        in_chain : w.chain ≡ id → IsObjectAt new (put id (Some (partition_of p.root (number.older ++ number.newer))) m.standing) r (renumbered_member id j w)
+        in_chain : w.chain ≡ id → IsObjectAt new (put_at_number id (Some (partition_of p.root (number.older ++ number.newer))) m.standing) r (renumbered_member id j w)
         in_chain here =
             let same_p = same_some a.partition p (sym a.chain ∙ ap (λ n. slice_index_or m.standing n None) here ∙ there) in
             let at_p : IsVersionAt p.versions w.version a.version = subst (λ (q : PartitionEntry). IsVersionAt q.versions w.version a.version) same_p a.number in
             elim (decided w.version j) [
               | inl same ↦ absurd (no_member r (row-of old s w.position r (subst (λ t. IsOfVersion old t w.position r) (one-at p.versions j a.version s (subst (λ n. IsVersionAt p.versions n a.version) same at_p) number) a.object))
                   (listed-at slots old registry counts m h r w a on))
-              | inr ne ↦ subst (IsObjectAt new (put id (Some (partition_of p.root (number.older ++ number.newer))) m.standing) r) (named true (eq-eqb w.chain id here))
-                  (renumbered_to (partition_of p.root (number.older ++ number.newer)) (renumbered j w.version) (λ e. ne (this_place e).1)
-                  (ap (λ n. slice_index_or (put id (Some (partition_of p.root (number.older ++ number.newer))) m.standing) n None) here ∙ put-at m.standing id (Some (partition_of p.root (number.older ++ number.newer))))
-                  (subst (λ n. IsVersionAt (number.older ++ number.newer) n a.version) (λ i. renumbered (number.number i) (at_p.number i))
+              | inr ne ↦ subst (IsObjectAt new (put_at_number id (Some (partition_of p.root (number.older ++ number.newer))) m.standing) r) (named true (eq-eqb w.chain id here))
+                  (renumbered_to (partition_of p.root (number.older ++ number.newer)) (number_after_removal j w.version) (λ e. ne (this_place e).1)
+                  (ap (λ n. slice_index_or (put_at_number id (Some (partition_of p.root (number.older ++ number.newer))) m.standing) n None) here ∙ put-at m.standing id (Some (partition_of p.root (number.older ++ number.newer))))
+                  (subst (λ n. IsVersionAt (number.older ++ number.newer) n a.version) (λ i. number_after_removal (number.number i) (at_p.number i))
                   (without-at number.older number.newer s a.version at_p.older at_p.newer (sym number.split ∙ at_p.split) (λ e. ne (sym at_p.number ∙ e ∙ number.number)))))
             ]
 
@@ -229,14 +229,14 @@ module _ (slots : Slots) (old new : View) (registry : Registry) (counts : Counts
     held-less = record {
       well = well;
       region = refl;
-      kept = subst (λ us. AreKept us (put id (option_map (partition_without j) (slice_index_or m.standing id None)) m.standing) (on_chain id (on_shown (shown_without j)) m.chains)) less_uses
-          (subst (λ ps. AreKept (put id (Some (without_version j less.used)) registry.uses) ps (on_chain id (on_shown (shown_without j)) m.chains)) (sym less_standing)
-          (subst (AreKept (put id (Some (without_version j less.used)) registry.uses) (put id (Some (partition_of p.root (number.older ++ number.newer))) m.standing)) (sym less_chains)
+      kept = subst (λ us. AreKept us (put_at_number id (option_map (partition_without j) (slice_index_or m.standing id None)) m.standing) (on_chain id (on_shown (shown_without j)) m.chains)) less_uses
+          (subst (λ ps. AreKept (put_at_number id (Some (without_version j less.used)) registry.uses) ps (on_chain id (on_shown (shown_without j)) m.chains)) (sym less_standing)
+          (subst (AreKept (put_at_number id (Some (without_version j less.used)) registry.uses) (put_at_number id (Some (partition_of p.root (number.older ++ number.newer))) m.standing)) (sym less_chains)
           (kept-put registry.uses m.standing m.chains id (Some (without_version j less.used)) (Some (partition_of p.root (number.older ++ number.newer))) (Some (chain_of_use (without_version j less.used) (partition_of p.root (number.older ++ number.newer)))) h.kept (less.root, refl))));
       listed = h.listed;
       stands = subst (λ st. AreStanding slots new (present st) h.listed) (sym less_standing) less_stands;
       recency = subst (λ st. StandAt new st h.listed (map (renumbered_member id j) m.recency)) (sym less_standing)
-          (stand-renumbered old new m.standing (put id (Some (partition_of p.root (number.older ++ number.newer))) m.standing) (renumbered_member id j) h.listed m.recency less_object h.recency);
+          (stand-renumbered old new m.standing (put_at_number id (Some (partition_of p.root (number.older ++ number.newer))) m.standing) (renumbered_member id j) h.listed m.recency less_object h.recency);
       dropped = h.dropped;
       counted = h.counted;
       roots = ap (λ (k : SlotCounts). k.there) same_slots ∙ h.roots ∙ ap (λ k. 2 + k) (sym (length-same m.chains id (on_shown (shown_without j))));

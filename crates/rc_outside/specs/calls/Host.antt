@@ -8,7 +8,7 @@ use Rattle.std.specs.declared.io.ErrorKind.TheVariants.{OutOfMemory}
 use Rattle.rc_outside.specs.declared.sources.Failed.{Failed}
 use Rattle.rc_outside.specs.declared.stores.StoreErr.{StoreErr}
 use Rattle.rc_outside.specs.declared.stores.StoreErr.TheVariants.{Fault, NoMemory}
-use Rattle.rc_outside.specs.Faults.{raised}
+use Rattle.rc_outside.specs.Faults.{raised_count}
 
 -- to be written from its start: made where it is not there, and emptied where it is
 abbrev pub made_afresh : OpenOptions
@@ -17,7 +17,7 @@ made_afresh = with_truncate (with_create (with_write new_options true) true) tru
 -- The host's error as a store tells it: want of memory exactly where the host says so, and a fault else, which is counted.
 abbrev pub IsToldAs : Error → StoreErr → (before now : ℕ) → Type 0
 IsToldAs error NoMemory before now = (error_kind error ≡ OutOfMemory) × (now ≡ before)
-IsToldAs error Fault before now = (error_kind error ≢ OutOfMemory) × (now ≡ raised before)
+IsToldAs error Fault before now = (error_kind error ≢ OutOfMemory) × (now ≡ raised_count before)
 
 -- what the host answered, as a store tells it, with its count of faults
 abbrev pub Heard : {T : Type 0} → Result T Error → Result T StoreErr → (before now : ℕ) → Type 0
@@ -28,5 +28,5 @@ Heard (Err error) (Ok _) before now = ⊥
 -- what the host answered, where each of its errors is told as a fault, with the count of faults
 abbrev pub HeardOrFailed : {T : Type 0} → Result T Error → Result T Failed → (before now : ℕ) → Type 0
 HeardOrFailed (Ok value) answer before now = (answer ≡ Ok value) × (now ≡ before)
-HeardOrFailed (Err error) (Err _) before now = now ≡ raised before
+HeardOrFailed (Err error) (Err _) before now = now ≡ raised_count before
 HeardOrFailed (Err error) (Ok _) before now = ⊥

@@ -18,19 +18,19 @@ use Rattle.rc_core.specs.Steps.{on_version, version_of}
 use Rattle.rc_core.specs.Version.{Version, end_position, static_state}
 use Rattle.rc_partition.specs.laws.Lists.{elem-cases, elem-first, elem-here, elem-later, elem-none}
 use Rattle.rc_version.specs.Versions.{statics_bytes}
-use Rattle.rc_registry.specs.Registry.{put}
+use Rattle.rc_registry.specs.Registry.{put_at_number}
 use Rattle.rc_memory.specs.Memory.{HasVersion, KeptChain, Member, Memory, IsVersionAt, chain_at, on_shown, on_version_of}
 use Rattle.rc_memory.specs.Recency.{IsRecency, MayBeListed}
 use Rattle.rc_memory.specs.Room.{ChainsFit, FitTogether}
-use Rattle.rc_memory.specs.Changes.{AtAlone, FitsChanged, IsVersionChanged, IsWithout, Nowhere, OfVersion, member}
+use Rattle.rc_memory.specs.Changes.{AtAlone, FitsChanged, IsVersionChanged, IsWithout, Nowhere, OfVersion, member_at}
 use Rattle.rc_memory.specs.laws.Listed.{one-at}
 use Rattle.rc_memory.specs.laws.Places.{same_some}
 use Rattle.rc_memory.specs.laws.Put.{put-at}
 use Rattle.rc_memory.specs.laws.Still.{still-then, still-wider, unmoved-then}
 use Rattle.rc_chain.specs.Lives.{IsChainMade, chain_of_new, with_end_listed}
-use Rattle.rc_populate.specs.Filling.{IsEntryOpened, IsGivenListed, chain_opened, given, opened_places}
+use Rattle.rc_populate.specs.Filling.{IsEntryOpened, IsGivenListed, chain_opened, filled_statics, opened_places}
 
-pub put-put : {X : Type 0} (xs : List (Option X)) (n : ℕ) (a b : Option X) → put n a (put n b xs) ≡ put n a xs
+pub put-put : {X : Type 0} (xs : List (Option X)) (n : ℕ) (a b : Option X) → put_at_number n a (put_at_number n b xs) ≡ put_at_number n a xs
 put-put [] zero a b = refl
 put-put [] (suc n) a b = ap (λ l. None ∷ l) (put-put [] n a b)
 put-put (x ∷ xs) zero a b = refl
@@ -55,7 +55,7 @@ copies row is one (two ∷ rows) same =
     ∙ joined_row-same row is
 
 -- what is given of a row is one
-pub given-is : (row : Row) → IsRow row → IfSome (given row) IsRow
+pub given-is : (row : Row) → IsRow row → IfSome (filled_statics row) IsRow
 given-is row is = elim (is_written row) as (λ b. IfSome (cond b (Some row) None) IsRow) [ true ↦ is | false ↦ tt ]
 
 -- the new version alone, before and after its static row is filled
@@ -101,30 +101,30 @@ module _ (id phase : ℕ) (pt : Option Tomb) (old mid : Memory) (made : IsChainM
       (fits-filled pt phase S g (subst (λ (o : Option KeptChain). IfSome o (λ k. FitTogether S k.chain.versions)) made-there (fit id)) is small)
 
   -- its static row is not in the list, since it has none
-  static-off : IsRecency mid → Contains mid.recency (member id 0 None) → ⊥
+  static-off : IsRecency mid → Contains mid.recency (member_at id 0 None) → ⊥
   static-off rule on =
-      let may = some-and (chain_at mid id) (λ k. MayBeListed k.chain 0 None) (rule.members (member id 0 None) on) in
+      let may = some-and (chain_at mid id) (λ k. MayBeListed k.chain 0 None) (rule.members (member_at id 0 None) on) in
       let no : false ≡ true = subst (λ (v : Version). IsSome v.statics) (made-version may.0 may.2.version may.1 may.2.number) may.2.object in
       absurd (cc)
 
-  module _ (g : Option Row) (new : Memory) (filled : IsVersionChanged id 0 (fill_statics g) (AtAlone (member id 0 None)) mid new) (listed : OfVersion mid id 0 (λ k v. IsGivenListed k.chain.kind g (member id 0 None) mid.recency new.recency)) (rule : IsRecency mid) where
-    opened-chains : new.chains ≡ put id (Some (chain_opened pt g phase)) old.chains
+  module _ (g : Option Row) (new : Memory) (filled : IsVersionChanged id 0 (fill_statics g) (AtAlone (member_at id 0 None)) mid new) (listed : OfVersion mid id 0 (λ k v. IsGivenListed k.chain.kind g (member_at id 0 None) mid.recency new.recency)) (rule : IsRecency mid) where
+    opened-chains : new.chains ≡ put_at_number id (Some (chain_opened pt g phase)) old.chains
     opened-chains =
         filled.chains
-        ∙ ap (λ o. put id (option_map (on_shown (on_version_of 0 (fill_statics g))) o) mid.chains) made-there
-        ∙ ap (λ cs. put id (Some (on_shown (on_version_of 0 (fill_statics g)) (chain_of_new Cache pt phase))) cs) made.chains
+        ∙ ap (λ o. put_at_number id (option_map (on_shown (on_version_of 0 (fill_statics g))) o) mid.chains) made-there
+        ∙ ap (λ cs. put_at_number id (Some (on_shown (on_version_of 0 (fill_statics g)) (chain_of_new Cache pt phase))) cs) made.chains
         ∙ put-put old.chains id (Some (on_shown (on_version_of 0 (fill_statics g)) (chain_of_new Cache pt phase))) (Some (chain_of_new Cache pt phase))
-        ∙ ap (λ s. put id (Some (chain_opened pt s phase)) old.chains) (none-joined g)
+        ∙ ap (λ s. put_at_number id (Some (chain_opened pt s phase)) old.chains) (none-joined g)
 
     opened-recency : new.recency ≡ old.recency ++ opened_places id g
     opened-recency = by g (listed (chain_of_new Cache pt phase) (version_of Unknown pt phase) made-there (record { older = []; newer = []; split = refl; number = refl }))
       where
-        by : (s : Option Row) → IsGivenListed Cache s (member id 0 None) mid.recency new.recency → new.recency ≡ old.recency ++ opened_places id s
+        by : (s : Option Row) → IsGivenListed Cache s (member_at id 0 None) mid.recency new.recency → new.recency ≡ old.recency ++ opened_places id s
         by None same = same ∙ made.recency
-        by (Some row) renewed = renewed.2 ∙ ap (λ l. l ++ (member id 0 None ∷ [])) (rest-is renewed.0 renewed.1 ∙ made.recency) ∙ append_assoc old.recency (member id 0 (Some end_position) ∷ []) (member id 0 None ∷ [])
+        by (Some row) renewed = renewed.2 ∙ ap (λ l. l ++ (member_at id 0 None ∷ [])) (rest-is renewed.0 renewed.1 ∙ made.recency) ∙ append_assoc old.recency (member_at id 0 (Some end_position) ∷ []) (member_at id 0 None ∷ [])
           where
-            rest-is : (rest : List Member) → IsWithout (member id 0 None) mid.recency rest → rest ≡ mid.recency
-            rest-is rest out = elim out [ inl same ↦ same.1 | inr split ↦ absurd (static-off rule (subst (λ l. Contains l (member id 0 None)) (sym split.2) (elem-here split.0 split.1 (member id 0 None)))) ]
+            rest-is : (rest : List Member) → IsWithout (member_at id 0 None) mid.recency rest → rest ≡ mid.recency
+            rest-is rest out = elim out [ inl same ↦ same.1 | inr split ↦ absurd (static-off rule (subst (λ l. Contains l (member_at id 0 None)) (sym split.2) (elem-here split.0 split.1 (member_at id 0 None)))) ]
 
     pub entry-opened : IsEntryOpened id pt g phase old new
     entry-opened = record {
@@ -136,6 +136,6 @@ module _ (id phase : ℕ) (pt : Option Tomb) (old mid : Memory) (made : IsChainM
       counts = filled.counts ∙ made.counts;
       still = still-then (λ w. w.chain ≡ id) old mid new
           (still-wider Nowhere (λ w. w.chain ≡ id) old mid (λ w off. absurd off) made.still)
-          (still-wider (AtAlone (member id 0 None)) (λ w. w.chain ≡ id) mid new (λ w at. ap (λ (x : Member). x.chain) at) filled.still);
+          (still-wider (AtAlone (member_at id 0 None)) (λ w. w.chain ≡ id) mid new (λ w at. ap (λ (x : Member). x.chain) at) filled.still);
       region = unmoved-then old.region mid.region new.region made.region filled.region;
     }

@@ -32,7 +32,7 @@ use Rattle.rc_mutation.specs.laws.FragMerge.{merge, merge_into, merge-in_order, 
 use Rattle.rc_query.specs.declared.lines.OutLine.{OutLine}
 use Rattle.rc_query.specs.Answer.{answer, in_slice, static_line, whole_slice}
 use Rattle.rc_query.specs.laws.Answers.{answer-one, own_cover, own_line, row_line}
-use Rattle.rc_query.specs.Compacting.{compacted, compacted_all, fragment_line, fragments_in, is_between, opening_change}
+use Rattle.rc_query.specs.Compacting.{compacted_all, compacted_lines, fragment_line, fragments_in, is_between, opening_change}
 use Rattle.rc_position.specs.declared.slices.Slice.{Slice}
 
 -- a row and its key
@@ -54,7 +54,7 @@ forced head tomb bs os = filter_map (λ e. row_line (greater tomb_cmp head (alon
 
 -- the lines of fragments that carry their places
 abbrev compacted_merge : Option Tomb → Option Tomb → List ((Pos × ℕ) × Frag) → List OutLine
-compacted_merge head tomb placed = compacted head tomb (list_map fragment_of placed)
+compacted_merge head tomb placed = compacted_lines head tomb (list_map fragment_of placed)
 
 no_rows : (head tomb : Option Tomb) (bs : List Change) → compacted_merge head tomb (list_map placed_change bs) ≡ []
 no_rows head tomb [] = refl
@@ -165,12 +165,12 @@ along-ranges (p ∷ ps) is x =
 
 -- ---- the whole of a partition
 
-without_end : (head tomb : Option Tomb) (fs : List Frag) → compacted head tomb (fs ++ frag.End ∷ []) ≡ compacted head tomb fs
+without_end : (head tomb : Option Tomb) (fs : List Frag) → compacted_lines head tomb (fs ++ frag.End ∷ []) ≡ compacted_lines head tomb fs
 without_end head tomb [] = refl
 without_end head tomb (f ∷ fs) = ap (cons_option (fragment_line head tomb f)) (without_end head (tomb_after tomb f) fs)
 
-without_head : (m : Mutation) (fs : List Frag) → compacted m.pt None ((frag.Start m.pt ∷ cond (is_written m.statics) (frag.Static m.statics ∷ []) []) ++ fs) ≡ compacted m.pt None fs
-without_head m fs = elim (is_written m.statics) as (λ b. compacted m.pt None ((frag.Start m.pt ∷ cond b (frag.Static m.statics ∷ []) []) ++ fs) ≡ compacted m.pt None fs) [ true ↦ refl | false ↦ refl ]
+without_head : (m : Mutation) (fs : List Frag) → compacted_lines m.pt None ((frag.Start m.pt ∷ cond (is_written m.statics) (frag.Static m.statics ∷ []) []) ++ fs) ≡ compacted_lines m.pt None fs
+without_head m fs = elim (is_written m.statics) as (λ b. compacted_lines m.pt None ((frag.Start m.pt ∷ cond b (frag.Static m.statics ∷ []) []) ++ fs) ≡ compacted_lines m.pt None fs) [ true ↦ refl | false ↦ refl ]
 
 pub in_whole : (key : List Comp) → in_slice whole_slice key ≡ true
 in_whole key = λ i. is_le (Before-rows [] key i) && is_lt (After-rows [] key i)
@@ -186,7 +186,7 @@ compacted-answer m is =
     ap (λ ls. statics ++ ls)
     (without_end m.pt None ((frag.Start m.pt ∷ cond (is_written m.statics) (frag.Static m.statics ∷ []) []) ++ middle)
     ∙ without_head m middle
-    ∙ ap (compacted m.pt None) (sym (merge-in_order m.rows (changes_of m.ranges) rows changes))
+    ∙ ap (compacted_lines m.pt None) (sym (merge-in_order m.rows (changes_of m.ranges) rows changes))
     ∙ compacted-merge m.pt None m.rows (changes_of m.ranges) (test_of _ rows)
     ∙ (λ i. filter_map (λ (e : Keyed). row_line (greater tomb_cmp m.pt (along-ranges m.ranges is.ranges (row_pos e.0) i)) e.0 e.1) m.rows)
     ∙ (λ i. filter_map (λ (e : Keyed). cond (sym (in_whole e.0) i) (row_line (own_cover m e.0) e.0 e.1) None) m.rows))
@@ -345,7 +345,7 @@ compacted-slice m slice is =
       | false ↦ λ _. refl
     ] refl in
     ap (λ ls. statics ++ ls)
-    (ap (compacted m.pt None) (sym (merge-in_order inside_rows (sliced_changes slice m.ranges) rows changes))
+    (ap (compacted_lines m.pt None) (sym (merge-in_order inside_rows (sliced_changes slice m.ranges) rows changes))
     ∙ compacted-merge m.pt None inside_rows (sliced_changes slice m.ranges) (test_of _ rows)
     ∙ filter_map-filter (λ (e : Keyed). row_line (greater tomb_cmp m.pt (along None (sliced_changes slice m.ranges) (row_pos e.0))) e.0 e.1) (λ e. in_slice slice e.0) m.rows
     ∙ (λ i. filter_map (λ (e : Keyed). line e i) m.rows))

@@ -42,12 +42,12 @@ abbrev pub goes_on : Piece → Piece → Bool
 goes_on p q = is_eq (tomb_cmp p.tomb q.tomb) && is_eq (pos_cmp p.to q.from)
 
 -- the pieces with one more behind them: the last is made longer if the new one goes on from it
-abbrev pub extended : List Piece → Piece → List Piece
-extended [] q = q ∷ []
-extended (p ∷ []) q = cond (goes_on p q) (record p { to = q.to } ∷ []) (p ∷ q ∷ [])
-extended (p ∷ r ∷ ps) q = p ∷ extended (r ∷ ps) q
+abbrev pub extended_pieces : List Piece → Piece → List Piece
+extended_pieces [] q = q ∷ []
+extended_pieces (p ∷ []) q = cond (goes_on p q) (record p { to = q.to } ∷ []) (p ∷ q ∷ [])
+extended_pieces (p ∷ r ∷ ps) q = p ∷ extended_pieces (r ∷ ps) q
 
 -- the same with a tombstone from one position to another, if there is one
 abbrev pub extended_by : List Piece → Pos → Pos → Option Tomb → List Piece
 extended_by pieces from to None = pieces
-extended_by pieces from to (Some tomb) = extended pieces (record { from = from; to = to; tomb = tomb })
+extended_by pieces from to (Some tomb) = extended_pieces pieces (record { from = from; to = to; tomb = tomb })

@@ -8,7 +8,7 @@ use Rattle.rc_core.specs.declared.entries.Mark.{Mark}
 use Rattle.rc_core.specs.Change.{mark}
 use Rattle.rc_core.specs.Slow.{spot_at}
 use Rattle.rc_core.specs.SpotState.{SpotState}
-use Rattle.rc_core.specs.Version.{Finding, Version, found, seen, state_of}
+use Rattle.rc_core.specs.Version.{Finding, Version, finding_in, finding_of, state_of}
 use Rattle.rc_object.specs.Objects.{HoldsRow}
 use Rattle.rc_partition.specs.Partitions.{StandingVersion}
 use Rattle.rc_reading.specs.declared.said.Asked.{Asked}
@@ -17,8 +17,8 @@ use Rattle.rc_reading.specs.Reading.{read_versions}
 
 -- what a version says of the place that is asked for
 abbrev pub finding_at : Asked → Version → Finding
-finding_at asked.Static c = found (mark c.static_flag None) c.statics
-finding_at (asked.Clustered x side) c = seen (spot_at side x.now) c.entries
+finding_at asked.Static c = finding_of (mark c.static_flag None) c.statics
+finding_at (asked.Clustered x side) c = finding_in (spot_at side x.now) c.entries
 
 -- what each of the versions says of it, as a state
 abbrev pub states_read : Asked → List StandingVersion → List SpotState

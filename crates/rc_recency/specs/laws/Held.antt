@@ -11,7 +11,7 @@ use Rattle.rc_memory.specs.Partitions.{PartitionEntry, StandingVersion, standing
 use Rattle.rc_registry.specs.Registry.{Registry}
 use Rattle.rc_memory.specs.declared.counts.Counts.{Counts}
 use Rattle.rc_memory.specs.Memory.{KeptChain, Memory, IsMemberObject, IsObjectAt, IsOfVersion, IsVersionAt}
-use Rattle.rc_memory.specs.Changes.{member}
+use Rattle.rc_memory.specs.Changes.{member_at}
 use Rattle.rc_memory.specs.Kept.{HoldMemory, chain_of_use}
 use Rattle.rc_memory.specs.laws.At.{kept-at, number-mapped}
 use Rattle.rc_memory.specs.laws.Listed.{one-at, stand-object}
@@ -43,31 +43,31 @@ module _ (slots : Slots) (v : View) (registry : Registry) (counts : Counts) (m :
   stands = version-there slots v h.held.well m.standing h.held.listed h.held.stands id j standing-as.partition (standing n standing-as.entries c) standing-as.there standing-as.number
 
   -- an object at a place of the version is one of it, and stands nowhere else
-  pub own-object : (at : Option Pos) (r : Ref) → IsMemberObject m r (member id j at) → IsOfVersion v (standing n standing-as.entries c) at r
+  pub own-object : (at : Option Pos) (r : Ref) → IsMemberObject m r (member_at id j at) → IsOfVersion v (standing n standing-as.entries c) at r
   own-object at r a =
       let s = standing-as in let same = same_some a.partition s.partition (sym a.chain ∙ s.there) in
       let version = one-at s.partition.versions j a.version (standing n s.entries c) (subst (λ (q : PartitionEntry). IsVersionAt q.versions j a.version) same a.number) s.number in
       subst (λ t. IsOfVersion v t at r) version (subst (λ z. IsOfVersion z a.version at r) h.held.region a.object)
 
-  pub own-member : (at : Option Pos) (r : Ref) → IsOfVersion v (standing n standing-as.entries c) at r → IsMemberObject m r (member id j at)
+  pub own-member : (at : Option Pos) (r : Ref) → IsOfVersion v (standing n standing-as.entries c) at r → IsMemberObject m r (member_at id j at)
   own-member at r o = let s = standing-as in record { partition = s.partition; version = standing n s.entries c; chain = s.there; number = s.number; object = subst (λ z. IsOfVersion z (standing n s.entries c) at r) (sym h.held.region) o }
 
   -- a listed place has an object
-  pub listed-there : (at : Option Pos) → Contains m.recency (member id j at) → (r : Ref) × IsOfVersion v (standing n standing-as.entries c) at r
+  pub listed-there : (at : Option Pos) → Contains m.recency (member_at id j at) → (r : Ref) × IsOfVersion v (standing n standing-as.entries c) at r
   listed-there at on =
-      let k = stand-object slots v h.held.well m.standing h.held.listed h.held.stands h.held.listed m.recency (member id j at) h.held.recency on in
-      (k.0, own-object at k.0 (subst (λ z. IsObjectAt z m.standing k.0 (member id j at)) (sym h.held.region) k.2))
+      let k = stand-object slots v h.held.well m.standing h.held.listed h.held.stands h.held.listed m.recency (member_at id j at) h.held.recency on in
+      (k.0, own-object at k.0 (subst (λ z. IsObjectAt z m.standing k.0 (member_at id j at)) (sym h.held.region) k.2))
 
   -- what is found in the version is found at the place
-  pub entry-found : (x : Pos) (o : Option Ref) → IsEntryFound v standing-as.entries c x o → IsFoundAt m (member id j (Some x)) o
+  pub entry-found : (x : Pos) (o : Option Ref) → IsEntryFound v standing-as.entries c x o → IsFoundAt m (member_at id j (Some x)) o
   entry-found x None f = λ on. let a = listed-there (Some x) on in f.0 a.0 a.1.0 a.1.1
   entry-found x (Some r) f = own-member (Some x) r (f.0, f.1)
 
-  pub static-found : (o : Option Ref) → ((s : Ref) → (o ≡ Some s → IsStaticsOf v n s) × (IsStaticsOf v n s → o ≡ Some s)) → IsFoundAt m (member id j None) o
+  pub static-found : (o : Option Ref) → ((s : Ref) → (o ≡ Some s → IsStaticsOf v n s) × (IsStaticsOf v n s → o ≡ Some s)) → IsFoundAt m (member_at id j None) o
   static-found None f = λ on. let a = listed-there None on in no_some a.0 ((f a.0).1 a.1)
   static-found (Some r) f = own-member None r ((f r).0 refl)
 
-module _ (slots : Slots) (v : View) (registry : Registry) (counts : Counts) (m : Memory) (h : HoldMemory slots v registry counts m) (id j : ℕ) (at : Option Pos) (e : Ref) (a : IsMemberObject m e (member id j at)) where
+module _ (slots : Slots) (v : View) (registry : Registry) (counts : Counts) (m : Memory) (h : HoldMemory slots v registry counts m) (id j : ℕ) (at : Option Pos) (e : Ref) (a : IsMemberObject m e (member_at id j at)) where
   found_at : (o : Option PartitionEntry) (p : PartitionEntry) (s : StandingVersion) → o ≡ Some p → IsVersionAt p.versions j s → IsSomeAnd o (λ q. (t : StandingVersion) × IsVersionAt q.versions j t × (t.object ≡ s.object))
   found_at o p s is number = subst (λ (x : Option PartitionEntry). IsSomeAnd x (λ q. (t : StandingVersion) × IsVersionAt q.versions j t × (t.object ≡ s.object))) (sym is) (s, number, refl)
 

@@ -19,7 +19,7 @@ use Rattle.rc_registry.specs.Registry.{Registry}
 use Rattle.rc_memory.specs.declared.counts.Counts.{Counts}
 use Rattle.rc_memory.specs.Memory.{KeptChain, Memory, IsMemberObject, chain_at}
 use Rattle.rc_memory.specs.Recency.{IsRecency, MayBeListed}
-use Rattle.rc_memory.specs.Changes.{member}
+use Rattle.rc_memory.specs.Changes.{member_at}
 use Rattle.rc_memory.specs.laws.Recent.{at_there}
 use Rattle.rc_recency.specs.Holding.{IsHeldVersion, IsOffMemtable}
 use Rattle.rc_recency.specs.laws.Held.{own-object, standing-as, stands}
@@ -34,18 +34,18 @@ entry_of_refs v (q ∷ refs) (e ∷ es) r h on = elim (elem-cases q r refs on) [
 
 module _ (slots : Slots) (v : View) (registry : Registry) (counts : Counts) (m : Memory) (id j : ℕ) (k : KeptChain) (c : Version) (n : Ref) (h : IsHeldVersion slots v registry counts m id j k c n) (r : Ref) where
   -- an object at a position holds the entry of the version there
-  pub placed-entry : (x : Pos) → IsMemberObject m r (member id j (Some x)) → (y : Entry) × Contains c.entries y × (y.position ≡ x) × HoldsEntry v r y
+  pub placed-entry : (x : Pos) → IsMemberObject m r (member_at id j (Some x)) → (y : Entry) × Contains c.entries y × (y.position ≡ x) × HoldsEntry v r y
   placed-entry x here =
       let own = own-object slots v registry counts m id j k c n h (Some x) r here in
       let y = entry_of_refs v (standing-as slots v registry counts m id j k c n h).entries c.entries r (stands slots v registry counts m id j k c n h).entries own.0 in
       (y.0, y.1, stands-once v r y.0.position x (holds-stands v r y.0 y.2) own.1, y.2)
 
   -- one at no position holds its static row
-  pub placed-static : IsMemberObject m r (member id j None) → (row : Row) × (c.statics ≡ Some row) × HoldsStatic v r row
+  pub placed-static : IsMemberObject m r (member_at id j None) → (row : Row) × (c.statics ≡ Some row) × HoldsStatic v r row
   placed-static here = static-holds v n r c.statics (stands slots v registry counts m id j k c n h).statics (own-object slots v registry counts m id j k c n h None r here)
 
 -- where the recency list keeps its rule it has nothing of a memtable
-pub off-memtable : (m : Memory) (id j : ℕ) (at : Option Pos) (k : KeptChain) → IsRecency m → chain_at m id ≡ Some k → IsOffMemtable k.chain.kind (member id j at) m
+pub off-memtable : (m : Memory) (id j : ℕ) (at : Option Pos) (k : KeptChain) → IsRecency m → chain_at m id ≡ Some k → IsOffMemtable k.chain.kind (member_at id j at) m
 off-memtable m id j at k rule there is on =
-    let may = at_there (λ x. MayBeListed x.chain j at) (chain_at m id) k (rule.members (member id j at) on) there in
+    let may = at_there (λ x. MayBeListed x.chain j at) (chain_at m id) k (rule.members (member_at id j at) on) there in
     let clash : Memtable ≡ Cache = sym is ∙ may.cached in cc

@@ -11,13 +11,13 @@ use Rattle.rc_rowcode.specs.declared.join.Merge.{Merge}
 use Rattle.rc_rowcode.specs.declared.join.Head.{Head}
 
 -- so many cells, as far as their codes can be read
-unfoldable pub listed : ℕ → List ℕ → List (ℕ × Cell)
-listed zero bytes = []
-listed (suc n) bytes = unwrap_or (option_map (λ x. x.0 ∷ listed n x.1) (parse_entry 0 bytes)) []
+unfoldable pub listed_cells : ℕ → List ℕ → List (ℕ × Cell)
+listed_cells zero bytes = []
+listed_cells (suc n) bytes = unwrap_or (option_map (λ x. x.0 ∷ listed_cells n x.1) (parse_entry 0 bytes)) []
 
 -- the entries as a list
 abbrev pub seen_entries : Entries → List (ℕ × Cell)
-seen_entries s = listed s.count s.bytes.now
+seen_entries s = listed_cells s.count s.bytes.now
 
 -- the row that a code holds
 abbrev pub seen_row : Head → Row

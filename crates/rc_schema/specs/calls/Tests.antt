@@ -28,6 +28,6 @@ abbrev pub begins : List ℕ → List ℕ → Bool
 begins text word = starts_with nat_eq word text
 
 -- `ck=KINDS`, `static=NAMES` and `cols=NAMES`
-abbrev pub marked : List ℕ → List ℕ → List ℕ → Option SchemaValue
-marked ck statics cols =
+abbrev pub schema_of_marked_words : List ℕ → List ℕ → List ℕ → Option SchemaValue
+schema_of_marked_words ck statics cols =
     if begins (codes "ck=") ck && (begins (codes "static=") statics && begins (codes "cols=") cols) then schema_listed (drop 3 ck) (drop 7 statics) (drop 5 cols) else None

@@ -14,7 +14,7 @@ use Rattle.rc_schema.specs.declared.kinds.CkKind.TheVariants.{Int, Text}
 use Rattle.rc_schema.specs.SchemaValue.{SchemaValue, is_name, are_distinct_by, is_schema, is_name_byte, are_names}
 use Rattle.rc_spelling.specs.Words.{is_word, words, each_of}
 use Rattle.rc_schema.specs.SchemaText.{kind_text, names_text, schema_text, read_kind, names_of, schema_listed, schema_of_words, schema_of}
-use Rattle.rc_schema.specs.calls.Tests.{is_kind, kind_named, lists_named, are_listed, begins, marked}
+use Rattle.rc_schema.specs.calls.Tests.{is_kind, kind_named, lists_named, are_listed, begins, schema_of_marked_words}
 
 both : (b c : Bool) → b && c ≡ true → (b ≡ true) × (c ≡ true)
 both true c h = (refl, h)
@@ -223,7 +223,7 @@ listed_back s h =
     (join (list_all is_kind (items (kinds_text s.ck))) (is_schema named) (ap (list_all is_kind) (items_back s.ck p.some_kind) ∙ kinds_are s.ck) (ap is_schema (named_back s p) ∙ h))
     (named_back s p)
 
-marked_back : (ck statics cols : List ℕ) → marked (codes "ck=" ++ ck) (codes "static=" ++ statics) (codes "cols=" ++ cols) ≡ schema_listed ck statics cols
+marked_back : (ck statics cols : List ℕ) → schema_of_marked_words (codes "ck=" ++ ck) (codes "static=" ++ statics) (codes "cols=" ++ cols) ≡ schema_listed ck statics cols
 marked_back ck statics cols = refl
 
 -- the text of a schema within the limits is read as that schema
@@ -299,7 +299,7 @@ listed_read ck statics cols s h =
     let whole : Read named ck statics cols = record { kinds = kinds_word ck halves.0; statics = names_word statics; cols = names_word cols; within = halves.1 } in
     subst (λ (x : SchemaValue). Read x ck statics cols) (inside named s parts.1) whole
 
-marked_read : (ck statics cols : List ℕ) (s : SchemaValue) → marked ck statics cols ≡ Some s
+marked_read : (ck statics cols : List ℕ) (s : SchemaValue) → schema_of_marked_words ck statics cols ≡ Some s
     → (codes "ck=" ++ kinds_text s.ck ≡ ck) × (codes "static=" ++ names_text s.statics ≡ statics) × (codes "cols=" ++ names_text s.cols ≡ cols) × (is_schema s ≡ true)
 marked_read ck statics cols s h =
     let parts = if_some (begins (codes "ck=") ck && (begins (codes "static=") statics && begins (codes "cols=") cols)) (schema_listed (drop 3 ck) (drop 7 statics) (drop 5 cols)) s h in

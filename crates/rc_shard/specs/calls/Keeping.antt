@@ -11,8 +11,8 @@ use Rattle.rc_machine.specs.State.{State}
 use Rattle.rc_shard.specs.declared.shard.Shard.{Shard}
 
 -- what stood for a state stands for it
-abbrev pub Keeps : {K : Type 0} → (Option Files → K → State → Type 0) → K → K → Type 0
-Keeps stands old new = (files : Option Files) (m : State) → stands files old m → stands files new m
+abbrev pub StandsForTheSame : {K : Type 0} → (Option Files → K → State → Type 0) → K → K → Type 0
+StandsForTheSame stands old new = (files : Option Files) (m : State) → stands files old m → stands files new m
 
 -- the counts of answers are as they were, and so is the budget; no count of the chains fell
 pub record CountsStay (old new : Shard) : Type 0 where

@@ -1,5 +1,5 @@
 -- What calls keep of what was written, what a write adds, and how the sealed writes become a table.
---     IsKept, IsPutIn                  what calls keep, and what a write adds to it
+--     KeepsUnstored, TakesWrite        what calls keep, and what a write adds to it
 --     KeepsWritten                     what a partition that leaves the row cache leaves of what was written
 --     IsTableStored, IsFlushAnswered   how the sealed writes become a table
 use Rattle.std.specs.Prelude.{◌≡◌, ◌⊎◌, ◌≤◌, ◌+◌, ◌++◌, ◌∷◌, ℕ, List, [], Option, length}
@@ -22,14 +22,14 @@ use Rattle.rc_shard.specs.declared.shard.Shard.{Shard}
 use Rattle.rc_shard.specs.calls.Caching.{Forgets, KeepsCache, LeavesCache}
 
 -- what was written stays under a schema, and so do what memtables' snapshots see and what the row cache has, in a region of as many segments, in which no more is live and memtables take no more
-pub record IsKept (schema : SchemaValue) (old new : Unstored 131072) : Type 0 where
+pub record KeepsUnstored (schema : SchemaValue) (old new : Unstored 131072) : Type 0 where
   pub stands : (writes later : List Write) → HaveWrites schema old writes later → HaveWrites schema new writes later
   pub seen : AllStillSee old.chains new.chains
   pub room : TakesNoMore old.chains new.chains
   pub cache : KeepsCache old.chains new.chains
 
 -- a write stands behind the later ones, and memtables take more by at most its weight; what memtables' snapshots see stays, and so does what the row cache has, in a region of as many segments
-pub record IsPutIn (schema : SchemaValue) (w : Write) (old new : Unstored 131072) : Type 0 where
+pub record TakesWrite (schema : SchemaValue) (w : Write) (old new : Unstored 131072) : Type 0 where
   pub stands : (writes later : List Write) → HaveWrites schema old writes later → HaveWrites schema new writes (later ++ w ∷ [])
   pub seen : AllStillSee old.chains new.chains
   pub budget : length new.chains.region.usages ≡ length old.chains.region.usages
@@ -58,4 +58,4 @@ pub record IsTableStored (files : Option Files) (k : Shard) (n : ℕ) (files' : 
 -- the reply to a flush: the sealed writes stand in table n, or the store failed and they are still sealed
 abbrev pub IsFlushAnswered : Option Files → Shard → ℕ → Option Files → Shard → Reply → Type 0
 IsFlushAnswered files k n files' k' reply =
-    ((reply ≡ replies.Fine) × IsTableStored files k n files' k') ⊎ ((reply ≡ replies.Refused WriteFault) × (k'.folder ≡ k.folder) × (k'.cache ≡ k.cache) × IsKept k.folder.schema k.unstored k'.unstored × (files' ≡ files))
+    ((reply ≡ replies.Fine) × IsTableStored files k n files' k') ⊎ ((reply ≡ replies.Refused WriteFault) × (k'.folder ≡ k.folder) × (k'.cache ≡ k.cache) × KeepsUnstored k.folder.schema k.unstored k'.unstored × (files' ≡ files))

@@ -15,8 +15,8 @@ use Rattle.rc_shell.specs.declared.status.Stop.TheVariants.{NoMemory, OutputFaul
 use Rattle.rc_shell.specs.declared.words.Words.TheVariants.{Run}
 
 -- what is kept of an unfinished line: one byte more than the longest line has
-unfoldable pub kept : List ℕ → List ℕ
-kept line = take 65537 line
+unfoldable pub kept_front : List ℕ → List ℕ
+kept_front line = take 65537 line
 
 -- the output's count of faults after a stop: it rose where the output failed
 abbrev pub FaultsAfter : Stop → ℕ → ℕ → Type 0
@@ -97,7 +97,7 @@ module _ {State Seen : Type 0} (Step : State → List ℕ → List ℕ → State
   -- What serving the bytes did, behind the unfinished line `rest`.
   abbrev pub Serves : State → List ℕ → List ℕ → (State → Type 0) → List ℕ → Seen → Option (List ℕ) → Option (List ℕ) → ℕ → ℕ → Result Unit Stop → Type 0
   Serves old rest bytes At held after before now faults faults' (Ok _) =
-      (text : List ℕ) × (left : List ℕ) × (new : State) × Fed old rest bytes text new left × At new × (held ≡ kept left) × Appends before now text × (faults' ≡ faults)
+      (text : List ℕ) × (left : List ℕ) × (new : State) × Fed old rest bytes text new left × At new × (held ≡ kept_front left) × Appends before now text × (faults' ≡ faults)
   Serves old rest bytes At held after before now faults faults' (Err stop) =
       (text : List ℕ) × IsTextWritten (DueOfBytes old (rest ++ bytes) after) (status_of stop) text × Appends before now text × FaultsAfter stop faults faults'
 
@@ -112,7 +112,7 @@ module _ {State Seen : Type 0} (Step : State → List ℕ → List ℕ → State
     pub counted : length taken ≡ count
     pub fed : Fed start [] taken text now rest
     pub at : At now
-    pub holds : held ≡ kept rest
+    pub holds : held ≡ kept_front rest
     pub input_same : input' ≡ input
     pub output_same : output' ≡ output
 

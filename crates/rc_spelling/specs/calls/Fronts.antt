@@ -2,7 +2,7 @@
 -- these; that they agree with the spelling of a word is proved (proofs/Steps.antt).
 use Rattle.std.specs.Prelude.{ℕ, ◌==◌, List, [], ◌∷◌, Option, Some, None, if◌then◌else◌}
 use Rattle.std.specs.Option.{option_map}
-use Rattle.rc_spelling.specs.Spelling.{stands_alone, escaped}
+use Rattle.rc_spelling.specs.Spelling.{stands_alone, escaped_byte}
 
 -- a byte that stands for itself, and what is behind it
 abbrev pub first_alone : ℕ → List ℕ → Option (ℕ × List ℕ)
@@ -10,7 +10,7 @@ first_alone byte rest = if stands_alone byte then Some (byte, rest) else None
 
 -- the byte that two digits stand for, and what is behind them
 abbrev pub first_escaped : ℕ → ℕ → List ℕ → Option (ℕ × List ℕ)
-first_escaped high low rest = option_map (λ byte. (byte, rest)) (escaped high low)
+first_escaped high low rest = option_map (λ byte. (byte, rest)) (escaped_byte high low)
 
 -- the first byte and what is behind it, or none of the empty word and where the front spells no byte
 abbrev pub first_spelled : List ℕ → Option (ℕ × List ℕ)

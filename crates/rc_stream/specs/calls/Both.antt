@@ -3,7 +3,7 @@ use Rattle.std.specs.Prelude.{◌≡◌, [], None}
 use Rattle.rc_position.specs.declared.positions.Pos.{Pos}
 use Rattle.rc_stream.specs.declared.holding.Held.{Held}
 use Rattle.rc_stream.specs.declared.merges.Merge.{Merge}
-use Rattle.rc_stream.specs.Holding.{held}
+use Rattle.rc_stream.specs.Holding.{held_fragments}
 use Rattle.rc_stream.specs.Places.{bound_of}
 use Rattle.rc_stream.specs.Stream.{Stream, first_upto}
 use Rattle.rc_stream.specs.Both.{HoldBoth}
@@ -12,8 +12,8 @@ use Rattle.rc_stream.specs.Both.{HoldBoth}
 
 -- where nothing is held of a stream, nothing of it stands up to x
 abbrev pub IsLookedUpto : Held → Pos → Stream → Type 0
-IsLookedUpto h x s = held h ≡ [] → first_upto x s.left ≡ None
+IsLookedUpto h x s = held_fragments h ≡ [] → first_upto x s.left ≡ None
 
 -- both stand for streams that merge to this one; ours was looked at up to x, and theirs up to the nearer of x and the first that is held of ours
 abbrev pub LookedBoth : {A B H W : Type 0} → (A → H → W → Stream → Type 0) → (B → H → W → Stream → Type 0) → Merge A B → H → W → Pos → Stream → Type 0
-LookedBoth seen seen' m h w x s = (b : HoldBoth seen seen' m h w s) × IsLookedUpto m.ours.held x b.ours × IsLookedUpto m.theirs.held (bound_of x (held m.ours.held)) b.theirs
+LookedBoth seen seen' m h w x s = (b : HoldBoth seen seen' m h w s) × IsLookedUpto m.ours.held x b.ours × IsLookedUpto m.theirs.held (bound_of x (held_fragments m.ours.held)) b.theirs

@@ -25,7 +25,7 @@ use Rattle.rc_position.specs.Position.{pos_cmp}
 use Rattle.rc_stream.specs.Stream.{force, is_passed, is_upto, onward, opening, rest}
 use Rattle.rc_stream.specs.Merging.{IsOrdered, changes_nothing, place_of, together}
 use Rattle.rc_stream.specs.calls.Merging.{beside}
-use Rattle.rc_stream.specs.Holding.{held, IsFrom, StandsOver, nearer, later}
+use Rattle.rc_stream.specs.Holding.{held_fragments, IsFrom, StandsOver, nearer, later}
 
 -- the range tombstone in force behind the first of fragments
 abbrev pub behind_first : Option Tomb → List Frag → Option Tomb
@@ -67,19 +67,19 @@ pub record WentOn (x : Pos) (h now : Held) : Type 0 where
   pub change : front_change now.front ≡ opening x (force x (front_tomb h.front) (front_change h.front)) ++ onward x (front_change h.front)
 
 -- a fragment is given, unless it changes nothing
-abbrev pub told : Option Tomb → Frag → Step
-told tomb f = cond (changes_nothing tomb f) step.Passed (step.Given f)
+abbrev pub fragment_step : Option Tomb → Frag → Step
+fragment_step tomb f = cond (changes_nothing tomb f) step.Passed (step.Given f)
 
 -- what the first of fragments comes to that alone stands at its place, where the other stream has this tombstone in force
 abbrev pub alone : Option Tomb → Option Tomb → List Frag → Step
 alone tomb other [] = step.Nothing
-alone tomb other (f ∷ fs) = told (greater tomb_cmp tomb other) (beside other f)
+alone tomb other (f ∷ fs) = fragment_step (greater tomb_cmp tomb other) (beside other f)
 
 -- what the first of both come to
-abbrev pub paired : Option Tomb → List Frag → List Frag → Step
-paired tomb [] gs = step.Nothing
-paired tomb (f ∷ fs) [] = step.Nothing
-paired tomb (f ∷ fs) (g ∷ gs) = told tomb (together f g)
+abbrev pub pair_step : Option Tomb → List Frag → List Frag → Step
+pair_step tomb [] gs = step.Nothing
+pair_step tomb (f ∷ fs) [] = step.Nothing
+pair_step tomb (f ∷ fs) (g ∷ gs) = fragment_step tomb (together f g)
 
 -- x is not before the fragment that a step gave, if it gave one
 abbrev pub StepReaches : Step → Pos → Type 0
@@ -95,17 +95,17 @@ IsStepUpto x (step.Given f) = IsTrue (is_upto x f)
 
 -- the first of what was held was taken in a step
 pub record TakesFirst (s : Step) (h now : Held) : Type 0 where
-  pub left : held now ≡ rest (held h)
-  pub tomb : front_tomb now.front ≡ behind_first (front_tomb h.front) (held h)
+  pub left : held_fragments now ≡ rest (held_fragments h)
+  pub tomb : front_tomb now.front ≡ behind_first (front_tomb h.front) (held_fragments h)
   pub from : (x : Pos) → StepReaches s x → IsFrom now.look x → IsFrom h.look x
-  pub over : (fs : List Frag) → IsOrdered (held h ++ fs) → StandsOver h.look fs → StandsOver now.look fs
+  pub over : (fs : List Frag) → IsOrdered (held_fragments h ++ fs) → StandsOver h.look fs → StandsOver now.look fs
 
 -- a step of a merge: nothing; the first of one, alone at its place; the first of both, at one place
 abbrev pub TakesTurn : Turn → Step → Held → Held → Held → Held → Type 0
 TakesTurn turn.Nobody s ours theirs ours' theirs' = (s ≡ step.Nothing) × (ours' ≡ ours) × (theirs' ≡ theirs)
-TakesTurn turn.Ours s ours theirs ours' theirs' = (s ≡ alone (front_tomb ours.front) (front_tomb theirs.front) (held ours)) × TakesFirst s ours ours' × (theirs' ≡ theirs)
-TakesTurn turn.Theirs s ours theirs ours' theirs' = (s ≡ alone (front_tomb theirs.front) (front_tomb ours.front) (held theirs)) × (ours' ≡ ours) × TakesFirst s theirs theirs'
-TakesTurn turn.Both s ours theirs ours' theirs' = (s ≡ paired (greater tomb_cmp (front_tomb ours.front) (front_tomb theirs.front)) (held ours) (held theirs)) × TakesFirst s ours ours' × TakesFirst s theirs theirs'
+TakesTurn turn.Ours s ours theirs ours' theirs' = (s ≡ alone (front_tomb ours.front) (front_tomb theirs.front) (held_fragments ours)) × TakesFirst s ours ours' × (theirs' ≡ theirs)
+TakesTurn turn.Theirs s ours theirs ours' theirs' = (s ≡ alone (front_tomb theirs.front) (front_tomb ours.front) (held_fragments theirs)) × (ours' ≡ ours) × TakesFirst s theirs theirs'
+TakesTurn turn.Both s ours theirs ours' theirs' = (s ≡ pair_step (greater tomb_cmp (front_tomb ours.front) (front_tomb theirs.front)) (held_fragments ours) (held_fragments theirs)) × TakesFirst s ours ours' × TakesFirst s theirs theirs'
 
 -- whose turn it is up to x
 abbrev pub turn_of : Pos → List Frag → List Frag → Turn
@@ -142,9 +142,9 @@ passed_over z (look.Next f) = look.Next f
 passed_over z (look.Past x f) = look.Past x f
 
 -- what is kept of a fragment that was passed over, if it is a change
-abbrev pub dropped : Frag → Look → Look
-dropped (frag.Start pt) l = l
-dropped (frag.Static row) l = l
-dropped (frag.Row key row) l = l
-dropped (frag.Change z tomb) l = passed_over z l
-dropped frag.End l = l
+abbrev pub look_past : Frag → Look → Look
+look_past (frag.Start pt) l = l
+look_past (frag.Static row) l = l
+look_past (frag.Row key row) l = l
+look_past (frag.Change z tomb) l = passed_over z l
+look_past frag.End l = l

@@ -12,7 +12,7 @@ use Rattle.rc_position.specs.Position.{pos_cmp, row_pos}
 use Rattle.rc_position.specs.laws.Orders.{pos_cmp_total, pos_cmp_same}
 use Rattle.rc_mutation.specs.declared.fragments.Frag.{Frag}
 use Rattle.rc_mutation.specs.declared.fragments.Frag.TheVariants as frag
-use Rattle.rc_stream.specs.Stream.{Stream, force, is_passed, onward, opening, rest, row_at, says, sought, took}
+use Rattle.rc_stream.specs.Stream.{Stream, force, is_passed, onward, opening, rest, row_at, says, sought_stream, took}
 use Rattle.rc_mutation.specs.Fragments.{tomb_after}
 
 pub le_le : (p x y : Pos) (r s : Ordering) → pos_cmp p x ≡ r → pos_cmp x y ≡ s → is_le r ≡ true → is_le s ≡ true → is_le (pos_cmp p y) ≡ true
@@ -78,7 +78,7 @@ rows-opening x y (Some tomb) fs = refl
 abbrev said : List Row → Option Tomb → List Row × Option Tomb
 said rows tomb = (rows, tomb)
 
-pub says-sought : (s : Stream) (x y : Pos) → IsTrue (is_le (pos_cmp x y)) → says y (sought x s) ≡ says y s
+pub says-sought : (s : Stream) (x y : Pos) → IsTrue (is_le (pos_cmp x y)) → says y (sought_stream x s) ≡ says y s
 says-sought s x y h =
     let tomb = force x s.tomb s.left in
     let left = onward x s.left in

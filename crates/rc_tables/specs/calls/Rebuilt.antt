@@ -57,9 +57,9 @@ changes_among (frag.Change x tomb ∷ fs) = (x, tomb) ∷ changes_among fs
 changes_among (frag.End ∷ fs) = changes_among fs
 
 -- the range that ends at x, where one had begun
-abbrev pub ended : Option (Pos × Tomb) → Pos → List Piece
-ended None x = []
-ended (Some begun) x = record { from = begun.0; to = x; tomb = begun.1 } ∷ []
+abbrev pub ended_range : Option (Pos × Tomb) → Pos → List Piece
+ended_range None x = []
+ended_range (Some begun) x = record { from = begun.0; to = x; tomb = begun.1 } ∷ []
 
 -- the range that begins at x, where a tombstone is in force from there on
 abbrev pub open_range : Pos → Option Tomb → Option (Pos × Tomb)
@@ -70,7 +70,7 @@ open_range x (Some tomb) = Some (x, tomb)
 abbrev pub pieces_between : List (Pos × Option Tomb) → Option (Pos × Tomb) → Option (List Piece)
 pieces_between [] None = Some []
 pieces_between [] (Some start) = None
-pieces_between (c ∷ cs) start = option_map (λ ps. ended start c.0 ++ ps) (pieces_between cs (open_range c.0 c.1))
+pieces_between (c ∷ cs) start = option_map (λ ps. ended_range start c.0 ++ ps) (pieces_between cs (open_range c.0 c.1))
 
 -- a number in eight bytes at the front, if there are as many
 unfoldable pub number_at_front : List ℕ → Option ℕ

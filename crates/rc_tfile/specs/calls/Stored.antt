@@ -7,8 +7,8 @@ use Rattle.rc_tfile.specs.declared.writing.WriteErr.{WriteErr}
 use Rattle.rc_tfile.specs.declared.writing.WriteErr.TheVariants.{Fault, NoMemory}
 
 -- file n is being built and has these bytes so far, told where the files are
-abbrev pub drafted : Option Files → ℕ → List ℕ → Option (Option Draft)
-drafted files n bytes = Some (option_map (λ _. (n, bytes)) files)
+abbrev pub draft_so_far : Option Files → ℕ → List ℕ → Option (Option Draft)
+draft_so_far files n bytes = Some (option_map (λ _. (n, bytes)) files)
 
 -- what the store refused
 abbrev pub write_err_of : StoreErr → WriteErr

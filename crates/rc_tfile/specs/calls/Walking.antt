@@ -12,7 +12,7 @@ use Rattle.rc_tfile.specs.declared.checking.CheckErr.TheVariants.{Fault, Damaged
 use Rattle.rc_tfile.specs.declared.outline.Outline.{Outline}
 use Rattle.rc_tfile.specs.Items.{Item, StopItem, TailItem}
 use Rattle.rc_tfile.specs.Before.{ItemsBefore, Behind, text, item_place, followed_by}
-use Rattle.rc_tfile.specs.Blocks.{due, ending}
+use Rattle.rc_tfile.specs.Blocks.{ending, items_due}
 use Rattle.rc_tfile.specs.TableText.{AllFit}
 use Rattle.rc_tfile.specs.calls.Outlined.{IsOutline, IsListed}
 use Rattle.rc_tfile.specs.Checking.{IsContent}
@@ -51,7 +51,7 @@ Walks false files schema o w = StandsAhead files schema o w
 pub record Awaits (files : Option Files) (schema : SchemaValue) (start : ItemsBefore) (left : List Item) (w : ReadAhead) : Type 0 where
   pub done : List Item
   pub whole : ending start ≡ done ++ left
-  pub next : due (followed_by start done) ≡ left
+  pub next : items_due (followed_by start done) ≡ left
   pub behind : item_place (followed_by start done) ≡ Behind
   pub ended : EndsWithTail (followed_by start done) → left ≡ []
   pub fit : AllFit schema (followed_by start done)

@@ -27,7 +27,7 @@ use Rattle.rc_mutation.specs.Canonical.{IsBounded, IsCanonicalList}
 use Rattle.rc_mutation.specs.laws.CanonicalListed.{listed}
 use Rattle.rc_tfile.specs.Items.{Item, HeadItem, PartItem, RowItem, ChangeItem, EndItem, StopItem, EntryItem, BlockItem, TailItem, IsItem}
 use Rattle.rc_tfile.specs.Before.{ItemsBefore, Between, Inside, text, offset, followed_by, item_place, last_part, last_pos, tomb_in_force}
-use Rattle.rc_tfile.specs.Blocks.{DirectoryEntry, entries, entry_items, ending, due}
+use Rattle.rc_tfile.specs.Blocks.{DirectoryEntry, entries, entry_items, ending, items_due}
 use Rattle.rc_tfile.specs.TableText.{MayStand, AllFit, frag_items, part_items, items_to_stop, whole_table, IsTable, PartsFit}
 use Rattle.rc_tfile.specs.laws.Drafts.{parts_of, body_is}
 use Rattle.rc_tfile.specs.laws.Follows.{all_append, by_recursion}
@@ -245,7 +245,7 @@ module _ (schema : SchemaValue) where
       is.1 fits.1))
 
   -- what is due may stand, one item behind another
-  due_stand : (xs : List Item) (before : ItemsBefore) → due before ≡ xs → AllByRecursion IsBehindStop xs → Stand before xs
+  due_stand : (xs : List Item) (before : ItemsBefore) → items_due before ≡ xs → AllByRecursion IsBehindStop xs → Stand before xs
   due_stand [] before e h = tt
   due_stand (EntryItem key off count ∷ xs) before e h = ((xs, e), due_stand xs (EntryItem key off count ∷ before) (ap (drop 1) e) h.1)
   due_stand (BlockItem b ∷ xs) before e h = ((xs, e), due_stand xs (BlockItem b ∷ before) (ap (drop 1) e) h.1)

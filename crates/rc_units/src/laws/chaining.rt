@@ -20,8 +20,8 @@ ghost use Rattle.rc_core.specs.Merge.{IsSeenAlike, new_version};
 ghost use Rattle.rc_core.specs.StandsFor.{StandsFor};
 ghost use Rattle.rc_core.specs.Steps.{IsCarriedIn, IsChain, pin_at, with_updating};
 ghost use Rattle.rc_units.specs.Chained.{Counts, IsKnownAsBefore, chain_left, number_left, objects_of, pins_left, units_counted};
-ghost use Rattle.rc_units.specs.Clean.{MayMerge, cleaned, cleaned_without_room};
-ghost use Rattle.rc_units.specs.Update.{IsFragmentOf, lost_from, unit_place, updated};
+ghost use Rattle.rc_units.specs.Clean.{MayMerge, cleaned_versions, cleaned_without_room};
+ghost use Rattle.rc_units.specs.Update.{IsFragmentOf, lost_from, unit_place, updated_version};
 
 /// The unit of the start, over an attached chain that is not under update, keeps the whole chain continuous, and carries what was carried. What the new
 /// phase says counts by its source.
@@ -29,15 +29,15 @@ pub fn an_update_begins_on_the_whole_chain()
     ensures chain { (below : ℕ → List Mutation) (change : Mutation) (c : Chain) (front : List Version) (under : Version) (phase : ℕ) → c.versions ≡ front ++ under ∷ [] →
         IsChain c → c.attached ≡ true → c.updating ≡ None → SameSource (below under.phase ++ change ∷ []) (below phase) → IsChainContinuous below c →
         (pt : Option Tomb) (next : Place) → IsFragmentOf change None (Start pt) next →
-        IsChainContinuous below (with_updating (Some next) (with_versions (front ++ under ∷ updated None (Start pt) next (new_version None phase) ∷ []) c)) }
+        IsChainContinuous below (with_updating (Some next) (with_versions (front ++ under ∷ updated_version None (Start pt) next (new_version None phase) ∷ []) c)) }
     ensures form { (below : ℕ → List Mutation) (change : Mutation) (c : Chain) (front : List Version) (under : Version) (phase : ℕ) → c.versions ≡ front ++ under ∷ [] →
         IsChain c → c.attached ≡ true → c.updating ≡ None → SameSource (below under.phase ++ change ∷ []) (below phase) → IsChainContinuous below c →
         (pt : Option Tomb) (next : Place) → IsFragmentOf change None (Start pt) next →
-        IsChain (with_updating (Some next) (with_versions (front ++ under ∷ updated None (Start pt) next (new_version None phase) ∷ []) c)) }
+        IsChain (with_updating (Some next) (with_versions (front ++ under ∷ updated_version None (Start pt) next (new_version None phase) ∷ []) c)) }
     ensures carried { (below : ℕ → List Mutation) (change : Mutation) (c : Chain) (front : List Version) (under : Version) (phase : ℕ) → c.versions ≡ front ++ under ∷ [] →
         IsChain c → c.attached ≡ true → c.updating ≡ None → SameSource (below under.phase ++ change ∷ []) (below phase) → IsChainContinuous below c →
         (pt : Option Tomb) (next : Place) → IsFragmentOf change None (Start pt) next → (x : Pos) → IsCarriedIn c x →
-        IsCarriedIn (with_updating (Some next) (with_versions (front ++ under ∷ updated None (Start pt) next (new_version None phase) ∷ []) c)) x }
+        IsCarriedIn (with_updating (Some next) (with_versions (front ++ under ∷ updated_version None (Start pt) next (new_version None phase) ∷ []) c)) x }
 {}
 
 /// A unit with room goes from the place of its fragment to the next one's: the whole chain stays continuous, and what was carried is carried.
@@ -45,13 +45,13 @@ pub fn a_unit_with_room_keeps_the_whole_chain()
     ensures chain { (below : ℕ → List Mutation) (change : Mutation) (c : Chain) (front : List Version) (under v : Version) → c.versions ≡ front ++ under ∷ v ∷ [] → IsChain c →
         (force : Option Tomb) (f : Frag) (next : Place) → c.updating ≡ Some (unit_place f) → IsFragmentOf change force f next → c.attached ≡ true →
         SameSource (below under.phase ++ change ∷ []) (below v.phase) → IsChainContinuous below c →
-        IsChainContinuous below (with_updating (Some next) (with_versions (front ++ under ∷ updated force f next v ∷ []) c)) }
+        IsChainContinuous below (with_updating (Some next) (with_versions (front ++ under ∷ updated_version force f next v ∷ []) c)) }
     ensures form { (below : ℕ → List Mutation) (change : Mutation) (c : Chain) (front : List Version) (under v : Version) → c.versions ≡ front ++ under ∷ v ∷ [] → IsChain c →
         (force : Option Tomb) (f : Frag) (next : Place) → c.updating ≡ Some (unit_place f) → IsFragmentOf change force f next →
-        IsChain (with_updating (Some next) (with_versions (front ++ under ∷ updated force f next v ∷ []) c)) }
+        IsChain (with_updating (Some next) (with_versions (front ++ under ∷ updated_version force f next v ∷ []) c)) }
     ensures carried { (below : ℕ → List Mutation) (change : Mutation) (c : Chain) (front : List Version) (under v : Version) → c.versions ≡ front ++ under ∷ v ∷ [] → IsChain c →
         (force : Option Tomb) (f : Frag) (next : Place) → c.updating ≡ Some (unit_place f) → IsFragmentOf change force f next → IsChainContinuous below c →
-        (x : Pos) → IsCarriedIn c x → IsCarriedIn (with_updating (Some next) (with_versions (front ++ under ∷ updated force f next v ∷ []) c)) x }
+        (x : Pos) → IsCarriedIn c x → IsCarriedIn (with_updating (Some next) (with_versions (front ++ under ∷ updated_version force f next v ∷ []) c)) x }
 {}
 
 /// A unit without room, its place behind the head, loses everything from the place on: the chain is no longer under update, and stays continuous.
@@ -67,24 +67,24 @@ pub fn a_unit_without_room_keeps_the_whole_chain()
 /// a memtable's chain and the writes that it stands for.
 pub fn a_unit_of_the_cleaner_keeps_the_whole_chain()
     ensures chain { (c : Chain) (front back : List Version) (v w : Version) → c.versions ≡ front ++ v ∷ w ∷ back → MayMerge c (length front) → IsVersion v → IsVersion w →
-        (below : ℕ → List Mutation) → IsChainContinuous below c → IsChainContinuous below (chain_left front (cleaned v w) back c) }
+        (below : ℕ → List Mutation) → IsChainContinuous below c → IsChainContinuous below (chain_left front (cleaned_versions v w) back c) }
     ensures form { (c : Chain) (front back : List Version) (v w : Version) → c.versions ≡ front ++ v ∷ w ∷ back → MayMerge c (length front) → IsVersion v → IsVersion w →
-        IsChain c → IsChain (chain_left front (cleaned v w) back c) }
+        IsChain c → IsChain (chain_left front (cleaned_versions v w) back c) }
     ensures carried { (c : Chain) (front back : List Version) (v w : Version) → c.versions ≡ front ++ v ∷ w ∷ back → MayMerge c (length front) → IsVersion v → IsVersion w →
-        (x : Pos) → IsCarriedIn c x → IsCarriedIn (chain_left front (cleaned v w) back c) x }
+        (x : Pos) → IsCarriedIn c x → IsCarriedIn (chain_left front (cleaned_versions v w) back c) x }
     ensures memtable { (c : Chain) (front back : List Version) (v w : Version) → c.versions ≡ front ++ v ∷ w ∷ back → MayMerge c (length front) → IsVersion v → IsVersion w →
-        IsMemtableChain c → IsMemtableChain (chain_left front (cleaned v w) back c) }
+        IsMemtableChain c → IsMemtableChain (chain_left front (cleaned_versions v w) back c) }
     ensures stands { (c : Chain) (front back : List Version) (v w : Version) → c.versions ≡ front ++ v ∷ w ∷ back → MayMerge c (length front) → IsVersion v → IsVersion w →
-        (writes : List Mutation) → StandsFor writes c.versions → StandsFor writes (chain_left front (cleaned v w) back c).versions }
+        (writes : List Mutation) → StandsFor writes c.versions → StandsFor writes (chain_left front (cleaned_versions v w) back c).versions }
 {}
 
 /// After a unit of the cleaner with room the same is seen at each version that is needed, under the number that it has then, and it is needed still. A
 /// snapshot's own number stays: it pins the same version.
 pub fn a_unit_of_the_cleaner_changes_nothing_that_is_read()
     ensures seen { (c : Chain) (front back : List Version) (v w : Version) → c.versions ≡ front ++ v ∷ w ∷ back → MayMerge c (length front) → IsVersion v → IsVersion w →
-        (j : ℕ) → IsNeeded c j → IsSeenAlike (upto c.versions j) (upto (chain_left front (cleaned v w) back c).versions (number_left (cleaned v w) (length front) j)) }
+        (j : ℕ) → IsNeeded c j → IsSeenAlike (upto c.versions j) (upto (chain_left front (cleaned_versions v w) back c).versions (number_left (cleaned_versions v w) (length front) j)) }
     ensures needed { (c : Chain) (front back : List Version) (v w : Version) → c.versions ≡ front ++ v ∷ w ∷ back → MayMerge c (length front) → IsVersion v → IsVersion w →
-        (j : ℕ) → IsNeeded c j → IsNeeded (chain_left front (cleaned v w) back c) (number_left (cleaned v w) (length front) j) }
+        (j : ℕ) → IsNeeded c j → IsNeeded (chain_left front (cleaned_versions v w) back c) (number_left (cleaned_versions v w) (length front) j) }
     ensures pins { (left : List Version) (n i : ℕ) (pins : List (Option ℕ)) → pin_at (pins_left left n pins) i ≡ option_map (number_left left n) (pin_at pins i) }
 {}
 
@@ -106,8 +106,8 @@ pub fn a_unit_of_the_cleaner_without_room_keeps_the_whole_chain()
 /// without it on a cache chain. What the newer version took from it does not count.
 pub fn a_unit_of_the_cleaner_leaves_less()
     ensures with_room { (c : Chain) (front back : List Version) (v w : Version) → c.versions ≡ front ++ v ∷ w ∷ back → MayMerge c (length front) → (MayMerge c (suc (length front)) → ⊥) →
-        (counts : ℕ → Bool) → Counts c counts → IsVersion v → (after : ℕ → Bool) → Counts (chain_left front (cleaned v w) back c) after →
-        units_counted after (chain_left front (cleaned v w) back c).versions < units_counted counts c.versions }
+        (counts : ℕ → Bool) → Counts c counts → IsVersion v → (after : ℕ → Bool) → Counts (chain_left front (cleaned_versions v w) back c) after →
+        units_counted after (chain_left front (cleaned_versions v w) back c).versions < units_counted counts c.versions }
     ensures without_room { (c : Chain) (front back : List Version) (v w : Version) → c.versions ≡ front ++ v ∷ w ∷ back → MayMerge c (length front) → (MayMerge c (suc (length front)) → ⊥) →
         (counts : ℕ → Bool) → Counts c counts → IsVersion v → (after : ℕ → Bool) → Counts (chain_left front (cleaned_without_room Cache v w) back c) after →
         units_counted after (chain_left front (cleaned_without_room Cache v w) back c).versions < units_counted counts c.versions }

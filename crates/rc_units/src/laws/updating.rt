@@ -17,8 +17,8 @@ ghost use Rattle.rc_core.specs.Change.{position_of};
 ghost use Rattle.rc_core.specs.Continuity.{IsContinuous};
 ghost use Rattle.rc_core.specs.Merge.{new_version};
 ghost use Rattle.rc_core.specs.Unit.{IsGivenUp, IsStretch, IsUnit};
-ghost use Rattle.rc_core.specs.Version.{IsVersion, Spot, Version, state_at, end_position, seen};
-ghost use Rattle.rc_units.specs.Update.{AreFragmentsOf, IsFragmentOf, Precedes, fragment_state_at, lost_from, unit_place, updated, updated_by};
+ghost use Rattle.rc_core.specs.Version.{IsVersion, Spot, Version, state_at, end_position, finding_in};
+ghost use Rattle.rc_units.specs.Update.{AreFragmentsOf, IsFragmentOf, Precedes, fragment_state_at, lost_from, unit_place, updated_by, updated_version};
 
 /// The canonical fragments of a mutation say what it says, each from its own place on and before the next one's.
 pub fn canonical_fragments_say_what_the_mutation_says()
@@ -28,23 +28,23 @@ pub fn canonical_fragments_say_what_the_mutation_says()
 /// From its own place on and before the next fragment's a fragment is put in, where nothing was said; every other spot is as it was.
 pub fn a_unit_puts_its_fragment_in()
     ensures before { (force : Option Tomb) (f : Frag) (next : Place) (v : Version) (s : Spot) → Precedes f next → IsVersion v →
-        place_cmp (Clustered (position_of s)) (unit_place f) ≡ Less → seen s (updated force f next v).entries ≡ seen s v.entries }
+        place_cmp (Clustered (position_of s)) (unit_place f) ≡ Less → finding_in s (updated_version force f next v).entries ≡ finding_in s v.entries }
     ensures within { (force : Option Tomb) (f : Frag) (next : Place) (v : Version) (s : Spot) → Precedes f next → IsVersion v → IsSilentFrom (unit_place f) v →
-        IsBefore (position_of s) end_position → IsStretch (unit_place f) next (Clustered (position_of s)) → state_at s (updated force f next v) ≡ fragment_state_at force f s }
+        IsBefore (position_of s) end_position → IsStretch (unit_place f) next (Clustered (position_of s)) → state_at s (updated_version force f next v) ≡ fragment_state_at force f s }
     ensures behind { (force : Option Tomb) (f : Frag) (next : Place) (v : Version) (s : Spot) → Precedes f next → IsVersion v →
-        place_cmp (Clustered (position_of s)) next ≢ Less → seen s (updated force f next v).entries ≡ seen s v.entries }
+        place_cmp (Clustered (position_of s)) next ≢ Less → finding_in s (updated_version force f next v).entries ≡ finding_in s v.entries }
     ensures end { (force : Option Tomb) (f : Frag) (next : Place) (v : Version) (s : Spot) → Precedes f next → IsVersion v →
-        pos_cmp (position_of s) end_position ≢ Less → seen s (updated force f next v).entries ≡ seen s v.entries }
+        pos_cmp (position_of s) end_position ≢ Less → finding_in s (updated_version force f next v).entries ≡ finding_in s v.entries }
 {}
 
 /// The unit of a fragment of the update's mutation, on a version at the fragment's place, is a unit of the core: it leaves a version, at the next place.
 pub fn an_updates_unit_is_a_unit()
     ensures unit { (change : Mutation) (force : Option Tomb) (f : Frag) (next : Place) (v : Version) → IsVersion v → IsAtPlace (unit_place f) v →
-        IsFragmentOf change force f next → IsUnit (unit_place f) next change v (updated force f next v) }
+        IsFragmentOf change force f next → IsUnit (unit_place f) next change v (updated_version force f next v) }
     ensures at_place { (change : Mutation) (force : Option Tomb) (f : Frag) (next : Place) (v : Version) → IsVersion v → IsAtPlace (unit_place f) v →
-        IsFragmentOf change force f next → IsAtPlace next (updated force f next v) }
-    ensures version { (force : Option Tomb) (f : Frag) (next : Place) (v : Version) → IsVersion v → IsVersion (updated force f next v) }
-    ensures phase { (force : Option Tomb) (f : Frag) (next : Place) (v : Version) → (updated force f next v).phase ≡ v.phase }
+        IsFragmentOf change force f next → IsAtPlace next (updated_version force f next v) }
+    ensures version { (force : Option Tomb) (f : Frag) (next : Place) (v : Version) → IsVersion v → IsVersion (updated_version force f next v) }
+    ensures phase { (force : Option Tomb) (f : Frag) (next : Place) (v : Version) → (updated_version force f next v).phase ≡ v.phase }
 {}
 
 /// What is lost without room, from the update's place on, is given up as the core says; a version is left, in its phase, and no entry is made.

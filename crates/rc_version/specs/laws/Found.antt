@@ -15,7 +15,7 @@ use Rattle.lsa_tree.specs.Entries.{IsEntryAtPosition, BelongsBetween}
 use Rattle.lsa_tree.specs.Search.{IsFound}
 use Rattle.lsa_tree.specs.laws.Orders.{never-at, stands-once}
 use Rattle.rc_core.specs.AtPlace.{HasEntryAt}
-use Rattle.rc_core.specs.Change.{split, split_by}
+use Rattle.rc_core.specs.Change.{gap_split, split_by}
 use Rattle.rc_core.specs.declared.entries.Entry.{Entry}
 use Rattle.rc_core.specs.laws.Placed.{ahead_of, stands-has}
 use Rattle.rc_core.specs.laws.Spots.{ascend-tail, position-reached, split-stands, turn_to, StandsAt}
@@ -56,10 +56,10 @@ module _ (v : View) (n : Ref) (refs : List Ref) (c : Version) (x : Pos) (h : IsV
 
 -- ---- where an entry stands a split makes none
 
-pub split-standing : (x : Pos) (es : List Entry) → Ascend es → HasEntryAt x es → split x es ≡ es
+pub split-standing : (x : Pos) (es : List Entry) → Ascend es → HasEntryAt x es → gap_split x es ≡ es
 split-standing x [] a h = absurd h
-split-standing x (e ∷ es) a (inl at) = ap (λ r. split_by r x e es (split x es)) (ap (pos_cmp x) at ∙ tied_itself pos_cmp_total x)
-split-standing x (e ∷ es) a (inr h) = ap (λ r. split_by r x e es (split x es)) (turn_to e.position x Less (ahead_of x e es a h)) ∙ ap (λ (l : List Entry). e ∷ l) (split-standing x es (ascend-tail e es a) h)
+split-standing x (e ∷ es) a (inl at) = ap (λ r. split_by r x e es (gap_split x es)) (ap (pos_cmp x) at ∙ tied_itself pos_cmp_total x)
+split-standing x (e ∷ es) a (inr h) = ap (λ r. split_by r x e es (gap_split x es)) (turn_to e.position x Less (ahead_of x e es a h)) ∙ ap (λ (l : List Entry). e ∷ l) (split-standing x es (ascend-tail e es a) h)
 
-pub standing-split : (x : Pos) (c : Version) → IsVersion c → split x c.entries ≡ c.entries → HasEntryAt x c.entries
+pub standing-split : (x : Pos) (c : Version) → IsVersion c → gap_split x c.entries ≡ c.entries → HasEntryAt x c.entries
 standing-split x c is same = stands-has x c.entries (subst (StandsAt x) same (split-stands x c.entries (position-reached x c.entries is.ends)))

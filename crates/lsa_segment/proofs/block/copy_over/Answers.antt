@@ -1,7 +1,7 @@
 use Rattle.std.proofs.Common.{◌+◌, [], ◌∷◌, take, drop, get_or, set, Some, sym, ap, ◌∙◌, arith}
 use Rattle.std.proofs.lemmas.List.{take_all}
 use Rattle.circular_buffer.specs.Places.{somes}
-use Rattle.lsa_segment.specs.Places.{written}
+use Rattle.lsa_segment.specs.Places.{written_places}
 use Rattle.lsa_segment.proofs.Written.{map-some, next_byte, copying, run-count}
 use Rattle.lsa_segment.proofs.block.copy_over.Goals as goal
 
@@ -32,4 +32,4 @@ pub returns-clause-after : goal.returns-clause-after
 returns-clause-after c =
     let old = c.args.bytes.now.bytes in let xs = somes (take c.args.len (drop c.args.from old)) in
     let long = run-count old c.args.from c.args.len c.requires.set in
-    c.loop-index.invariant.after ∙ ap (written old c.args.to) (take_all c.loop-index.index xs (omega (arith, long, c.loop-index-test.false)))
+    c.loop-index.invariant.after ∙ ap (written_places old c.args.to) (take_all c.loop-index.index xs (omega (arith, long, c.loop-index-test.false)))

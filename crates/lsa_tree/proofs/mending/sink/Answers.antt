@@ -1,7 +1,7 @@
 use Rattle.std.proofs.Common.{◌≡◌, Some, IsSome, refl, sym, ◌∙◌, subst, arith}
 use Rattle.lsa_region.specs.declared.end.End.TheVariants.{Obj}
 use Rattle.lsa_region.specs.Region.{link_of, IsEnd}
-use Rattle.lsa_shape.specs.Path.{entered}
+use Rattle.lsa_shape.specs.Path.{entered_object}
 use Rattle.lsa_tree.specs.calls.Placing.{IsMended}
 use Rattle.lsa_tree.proofs.Steps.{stepped-top, owner-body, owner-door, sink-heavy, sink-level, sink-child, sink-steep, sink-mended, sink-lowered}
 use Rattle.lsa_tree.proofs.mending.sink.Goals as goal
@@ -50,21 +50,21 @@ child-x-requires g c =
     let v = c.args.region.now in let well = c.known.ensures.well in let at = c.args.at in let side = c.in-Some.side in let q = c.in-Some.p in let some = sym c.owner.ensures ∙ c.in-Some.is in
     let p = c.requires.0 in let moved = c.requires.1 in
     let end = c.door-above.result in let door = c.door-above.ensures in
-    (omega arith, subst (λ f. IsEnd v (Obj q f) × IsSome (entered 2 (link_of v (Obj q f)))) (sym c.far.ensures) (sink-child v well at p side q some end door moved (λ e. c.if-leans-eq0.false (c.balance-leans.ensures ∙ e)) (λ e. c.if-leans-from.false (c.balance-leans.ensures ∙ e ∙ sym (c.from.ensures ∙ c.heavy.ensures))) _ refl))
+    (omega arith, subst (λ f. IsEnd v (Obj q f) × IsSome (entered_object 2 (link_of v (Obj q f)))) (sym c.far.ensures) (sink-child v well at p side q some end door moved (λ e. c.if-leans-eq0.false (c.balance-leans.ensures ∙ e)) (λ e. c.if-leans-from.false (c.balance-leans.ensures ∙ e ∙ sym (c.from.ensures ∙ c.heavy.ensures))) _ refl))
 
 pub mend-requires : goal.mend-requires
 mend-requires g c =
     let v = c.args.region.now in let well = c.known.ensures.well in let at = c.args.at in let side = c.in-Some.side in let q = c.in-Some.p in let some = sym c.owner.ensures ∙ c.in-Some.is in
     let p = c.requires.0 in let moved = c.requires.1 in
     let end = c.door-above.result in let door = c.door-above.ensures in
-    let x = c.child-x.result in let child = subst (λ f. entered 2 (link_of v (Obj q f)) ≡ Some x) c.far.ensures c.child-x.ensures in
+    let x = c.child-x.result in let child = subst (λ f. entered_object 2 (link_of v (Obj q f)) ≡ Some x) c.far.ensures c.child-x.ensures in
     (omega arith, sink-steep v well at p side q some end door moved (λ e. c.if-leans-eq0.false (c.balance-leans.ensures ∙ e)) (λ e. c.if-leans-from.false (c.balance-leans.ensures ∙ e ∙ sym (c.from.ensures ∙ c.heavy.ensures))) c.other.result c.other.ensures x child)
 
 pub returns-then-mend-clause-stepped : goal.returns-then-mend-clause-stepped
 returns-then-mend-clause-stepped g c = λ p moved.
     let v = c.args.region.now in let well = c.known.ensures.well in let at = c.args.at in let side = c.in-Some.side in let q = c.in-Some.p in let some = sym c.owner.ensures ∙ c.in-Some.is in
     let end = c.door-above.result in let door = c.door-above.ensures in
-    let x = c.child-x.result in let child = subst (λ f. entered 2 (link_of v (Obj q f)) ≡ Some x) c.far.ensures c.child-x.ensures in
+    let x = c.child-x.result in let child = subst (λ f. entered_object 2 (link_of v (Obj q f)) ≡ Some x) c.far.ensures c.child-x.ensures in
     let steep = sink-steep v well at p side q some end door moved (λ e. c.if-leans-eq0.false (c.balance-leans.ensures ∙ e)) (λ e. c.if-leans-from.false (c.balance-leans.ensures ∙ e ∙ sym (c.from.ensures ∙ c.heavy.ensures))) c.other.result c.other.ensures x child in
     sink-mended v well at p side q some end door moved (λ e. c.if-leans-eq0.false (c.balance-leans.ensures ∙ e)) (λ e. c.if-leans-from.false (c.balance-leans.ensures ∙ e ∙ sym (c.from.ensures ∙ c.heavy.ensures))) c.other.result c.other.ensures x child c.mend.new.region (subst (IsMended v c.mend.new.region c.other.result end q x steep) c.if-mend.true (c.mend.ensures.mended steep))
 
@@ -72,6 +72,6 @@ pub returns-else-mend-clause-stepped : goal.returns-else-mend-clause-stepped
 returns-else-mend-clause-stepped g c = λ p moved.
     let v = c.args.region.now in let well = c.known.ensures.well in let at = c.args.at in let side = c.in-Some.side in let q = c.in-Some.p in let some = sym c.owner.ensures ∙ c.in-Some.is in
     let end = c.door-above.result in let door = c.door-above.ensures in
-    let x = c.child-x.result in let child = subst (λ f. entered 2 (link_of v (Obj q f)) ≡ Some x) c.far.ensures c.child-x.ensures in
+    let x = c.child-x.result in let child = subst (λ f. entered_object 2 (link_of v (Obj q f)) ≡ Some x) c.far.ensures c.child-x.ensures in
     let steep = sink-steep v well at p side q some end door moved (λ e. c.if-leans-eq0.false (c.balance-leans.ensures ∙ e)) (λ e. c.if-leans-from.false (c.balance-leans.ensures ∙ e ∙ sym (c.from.ensures ∙ c.heavy.ensures))) c.other.result c.other.ensures x child in
     sink-lowered v well at p side q some end door moved (λ e. c.if-leans-eq0.false (c.balance-leans.ensures ∙ e)) (λ e. c.if-leans-from.false (c.balance-leans.ensures ∙ e ∙ sym (c.from.ensures ∙ c.heavy.ensures))) c.other.result c.other.ensures x child c.mend.new.region (subst (IsMended v c.mend.new.region c.other.result end q x steep) c.if-mend.false (c.mend.ensures.mended steep))

@@ -3,7 +3,7 @@ use Rattle.std.proofs.lemmas.Result.{IfOk-weaker}
 use Rattle.std.specs.Prelude.{◌↔◌, IsTrue}
 use Rattle.rc_cell.specs.Orders.{tomb_cmp}
 use Rattle.rc_cell.specs.Winner.{greatest}
-use Rattle.rc_core.specs.Chain.{content, flagged}
+use Rattle.rc_core.specs.Chain.{content, has_flag}
 use Rattle.rc_core.specs.Continuity.{static_states, version_tombs}
 use Rattle.rc_reading.specs.Reading.{IsRowGiven}
 use Rattle.rc_cursor.specs.Snapshots.{kind_seen, versions_seen}
@@ -22,7 +22,7 @@ returns-then-not-is_head_of g c =
     let h = c.in_ok-head.head in
     let given : IsGivenOf (kind_seen m s) (versions_seen m s) h = record {
       pt = seen-as (λ kind versions. h.pt ≡ greatest tomb_cmp (version_tombs versions)) m s sight c.in_ok-head.ensures.pt;
-      known = seen-as (λ kind versions. h.known ≡ flagged kind (static_states versions)) m s sight c.in_ok-head.ensures.known;
+      known = seen-as (λ kind versions. h.known ≡ has_flag kind (static_states versions)) m s sight c.in_ok-head.ensures.known;
     } in
     let row = seen-as (λ kind versions. IsRowGiven h.row (content (static_states versions)).0) m s sight c.in_ok-head.ensures.row in
     let test = c.is_head_of.ensures (content (static_states (versions_seen m s))).0 row in (
@@ -40,7 +40,7 @@ returns g c =
     let h = c.in_ok-head.head in
     let given : IsGivenOf (kind_seen m s) (versions_seen m s) h = record {
       pt = seen-as (λ kind versions. h.pt ≡ greatest tomb_cmp (version_tombs versions)) m s sight c.in_ok-head.ensures.pt;
-      known = seen-as (λ kind versions. h.known ≡ flagged kind (static_states versions)) m s sight c.in_ok-head.ensures.known;
+      known = seen-as (λ kind versions. h.known ≡ has_flag kind (static_states versions)) m s sight c.in_ok-head.ensures.known;
     } in
     let row = seen-as (λ kind versions. IsRowGiven h.row (content (static_states versions)).0) m s sight c.in_ok-head.ensures.row in
     let same : IsSame (kind_seen m s) (versions_seen m s) h given c.args.read.now c.holds_together.ensures = (c.is_head_of.ensures (content (static_states (versions_seen m s))).0 row).0 c.if-not-is_head_of.false in

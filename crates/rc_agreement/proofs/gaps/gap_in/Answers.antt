@@ -1,5 +1,5 @@
 use Rattle.std.proofs.Common.{arith, Some, sym, ap, ◌∙◌, subst}
-use Rattle.rc_core.specs.Version.{found}
+use Rattle.rc_core.specs.Version.{finding_of}
 use Rattle.std.specs.Prelude.{None}
 use Rattle.rc_agreement.specs.calls.Gaps.{IsNextAt, IsNextEntry}
 use Rattle.rc_agreement.proofs.Nexts.{next-first, none-clear, seen-first, seen-none}
@@ -19,6 +19,6 @@ marks-requires g c = let w = subst (IsNextEntry c.args.region.now c.args.x.now c
 pub returns : goal.returns
 returns g c = λ refs d h.
     let w = subst (IsNextEntry c.args.region.now c.args.x.now d.entries) c.in-Some.is (c.next_entry.ensures refs d h) in (
-      seen-first c.args.x.now d.entries w.0 w.2 ∙ ap (λ mark. found mark None) (sym (c.marks.ensures w.0 w.1).1),
+      seen-first c.args.x.now d.entries w.0 w.2 ∙ ap (λ mark. finding_of mark None) (sym (c.marks.ensures w.0 w.1).1),
       subst (λ y. IsNextAt c.args.x.now d.entries (Some y)) (sym (c.in_ok-to.ensures w.0 w.1)) (next-first c.args.x.now d.entries w.0 w.2),
     )

@@ -1,6 +1,6 @@
 -- The stream below was sought, and is then looked at or read on.
 use Rattle.std.proofs.Common.{true, sym, subst, ap}
-use Rattle.rc_stream.specs.Did.{OfNext, answered}
+use Rattle.rc_stream.specs.Did.{OfNext, has_answer}
 use Rattle.rc_stream.specs.Places.{Reaches}
 use Rattle.rc_cacheread.proofs.Orders.{reach-itself}
 use Rattle.rc_cacheread.specs.calls.Below.{IsNotAway}
@@ -56,7 +56,7 @@ returns-in-Sought-clause-did g c = λ y covers.
     let h = c.args.home.now in
     let w = c.args.store.now in
     let on = end-reaches kn be fi r h w c.args.upto.now y c.requires.idle c.requires.near covers in
-    chain-after (ReaderCall kn be fi (OfNext y)) (answered c.look_here.result) (reader_state r h w) (reader_state c.settle.new.reader c.settle.new.home c.settle.new.store) (reader_state c.look_here.new.reader c.look_here.new.home c.look_here.new.store) (c.in-Ok.ensures.did y on) (c.look_here.ensures.did y (ends-on kn be fi r c.settle.new.reader h c.settle.new.home w c.settle.new.store c.args.upto.now y (λ s d. c.in-Ok.ensures.says s (sees-lags kn be fi r h w true s d)) covers))
+    chain-after (ReaderCall kn be fi (OfNext y)) (has_answer c.look_here.result) (reader_state r h w) (reader_state c.settle.new.reader c.settle.new.home c.settle.new.store) (reader_state c.look_here.new.reader c.look_here.new.home c.look_here.new.store) (c.in-Ok.ensures.did y on) (c.look_here.ensures.did y (ends-on kn be fi r c.settle.new.reader h c.settle.new.home w c.settle.new.store c.args.upto.now y (λ s d. c.in-Ok.ensures.says s (sees-lags kn be fi r h w true s d)) covers))
 
 pub returns-in-Within-clause-stays : goal.returns-in-Within-clause-stays
 returns-in-Within-clause-stays g c = λ writes d.
@@ -87,7 +87,7 @@ returns-in-Within-clause-did g c = λ y covers.
     let h = c.args.home.now in
     let w = c.args.store.now in
     let on = end-reaches kn be fi r h w c.args.upto.now y c.requires.idle c.requires.near covers in
-    chain-after (ReaderCall kn be fi (OfNext y)) (answered c.go_below.result) (reader_state r h w) (reader_state c.settle.new.reader c.settle.new.home c.settle.new.store) (reader_state c.go_below.new.reader c.go_below.new.home c.go_below.new.store) (c.in-Ok.ensures.did y on) (c.go_below.ensures.did y (ends-on kn be fi r c.settle.new.reader h c.settle.new.home w c.settle.new.store c.args.upto.now y (λ s d. c.in-Ok.ensures.says s (sees-lags kn be fi r h w true s d)) covers))
+    chain-after (ReaderCall kn be fi (OfNext y)) (has_answer c.go_below.result) (reader_state r h w) (reader_state c.settle.new.reader c.settle.new.home c.settle.new.store) (reader_state c.go_below.new.reader c.go_below.new.home c.go_below.new.store) (c.in-Ok.ensures.did y on) (c.go_below.ensures.did y (ends-on kn be fi r c.settle.new.reader h c.settle.new.home w c.settle.new.store c.args.upto.now y (λ s d. c.in-Ok.ensures.says s (sees-lags kn be fi r h w true s d)) covers))
 
 pub returns-in-Away : goal.returns-in-Away
 returns-in-Away g c = absurd (subst IsNotAway c.in-Away.is c.in-Ok.ensures.stage)

@@ -5,7 +5,7 @@ use Rattle.rc_position.specs.declared.positions.Pos.{Pos}
 use Rattle.rc_position.specs.Position.{IsBefore, row_pos}
 use Rattle.rc_core.specs.declared.parts.Part.TheVariants as part
 use Rattle.rc_mutation.specs.declared.fragments.Frag.TheVariants as frag
-use Rattle.rc_stream.specs.Did.{OfNext, answered}
+use Rattle.rc_stream.specs.Did.{OfNext, has_answer}
 use Rattle.rc_stream.specs.Places.{Reaches}
 use Rattle.rc_stream.specs.Snapshot.{IsPartFrom, SayThere, There, place_behind}
 use Rattle.rc_cacheread.specs.declared.readers.Stage.TheVariants.{Away}
@@ -237,7 +237,7 @@ returns-in-Ok-Missing-clause-did g c = λ y covers.
     let left = known-left kn be fi c.requires.ready.shares r.below r.filler w true (r.known, h) (c.next_part.new.known, c.next_part.new.home) c.in-Ok-Missing.ensures.did c.requires.ready.fit in
     let carries = carries-same (be.seen r.below h w) (be.seen r.below c.next_part.new.home w) r.stage (stand r.spot) r.spot.tomb left.seen in
     let n = reader_of c.next_part.new.known r.below r.filler r.to r.spot r.stage c.next_part.new.lags in
-    chain-after (ReaderCall kn be fi (OfNext y)) (answered c.read_below.result) (reader_state r h w) (reader_state n c.next_part.new.home w) (reader_state c.read_below.new.reader c.read_below.new.home c.read_below.new.store)
+    chain-after (ReaderCall kn be fi (OfNext y)) (has_answer c.read_below.result) (reader_state r h w) (reader_state n c.next_part.new.home w) (reader_state c.read_below.new.reader c.read_below.new.home c.read_below.new.store)
     (known-calls kn be fi (OfNext y) r.below r.filler w true r.known c.next_part.new.known h c.next_part.new.home c.in-Ok-Missing.ensures.did)
     (c.read_below.ensures.did y (ends-on kn be fi r n h c.next_part.new.home w w c.args.upto.now y (λ z v. sees-known kn be fi r c.next_part.new.known r.spot r.stage c.next_part.new.lags h c.next_part.new.home w left c.next_part.ensures.knows (reach-itself (stand r.spot)) carries z v (idle-front r.spot c.requires.idle) refl (advance-same (SayThere v.writes) r.to r.spot v.says.rest c.requires.idle v.says.reads)) covers))
 

@@ -1,6 +1,6 @@
 -- A round goes on from where the rounds before it came to.
 use Rattle.std.proofs.Common.{Ok, true, false, refl, sym, ap, ◌∙◌, subst, arith}
-use Rattle.rc_stream.specs.Did.{OfNext, answered}
+use Rattle.rc_stream.specs.Did.{OfNext, has_answer}
 use Rattle.std.specs.Prelude.{IfOk}
 use Rattle.rc_cacheread.specs.Did.{ReaderDid}
 use Rattle.rc_cacheread.specs.calls.Did.{IsReaderStepUpto, ReaderStepSays}
@@ -42,7 +42,7 @@ loop-rounds-preserved g c =
       ready = c.round.ensures.ready;
       says = λ s d. subst (λ x. ReaderStepSays x c.args.upto.now s (Sees kn be fi c.round.new.reader c.round.new.home c.round.new.store)) passed (c.round.ensures.says s (l.invariant.says s d));
       did = λ y covers. did-after kn be fi r l.reader c.round.new.reader h l.home c.round.new.home w l.store c.round.new.store y true (l.invariant.did y covers)
-          (subst (λ x. ReaderDid kn be fi l.reader l.home l.store (OfNext y) (answered x) c.round.new.reader c.round.new.home c.round.new.store) passed (c.round.ensures.did y (ends-on kn be fi r l.reader h l.home w l.store c.args.upto.now y l.invariant.says covers)));
+          (subst (λ x. ReaderDid kn be fi l.reader l.home l.store (OfNext y) (has_answer x) c.round.new.reader c.round.new.home c.round.new.store) passed (c.round.ensures.did y (ends-on kn be fi r l.reader h l.home w l.store c.args.upto.now y l.invariant.says covers)));
       to = c.round.ensures.to ∙ l.invariant.to;
       damage = λ file offset d. l.invariant.damage file offset (c.round.ensures.damage.less file offset d);
       faults = omega (arith, l.invariant.faults, c.in-Ok-Passed.ensures.cause);

@@ -1,7 +1,7 @@
 -- The head of the snapshot, or that with the static row below.
 use Rattle.std.specs.Prelude.{⊤, IsTrue}
 use Rattle.std.proofs.Common.{true, false, refl, sym, ◌∙◌, subst}
-use Rattle.rc_stream.specs.Did.{OfHead, answered}
+use Rattle.rc_stream.specs.Did.{OfHead, has_answer}
 use Rattle.rc_stream.specs.Places.{Reaches}
 use Rattle.rc_cacheread.specs.Did.{KnownStep, ReaderCall, reader_state, IsFilledFor}
 use Rattle.rc_cacheread.specs.Sharing.{IsPlaceAt, of_below, of_filler, of_known, IsStaticRowKnown}
@@ -122,10 +122,10 @@ returns-clause-did g c =
     let one = (chain-one (KnownStep kn.did) true (r.known, h) (c.head_known.new.self, c.head_known.new.home) (OfHead, c.in-Ok.ensures.did)) in
     let left = known-left kn be fi c.requires.ready.shares r.below r.filler w true (r.known, h) (c.head_known.new.self, c.head_known.new.home) one c.requires.ready.fit in
     record {
-      calls = chain-after (ReaderCall kn be fi OfHead) (answered c.head_below.result) (reader_state r h w) (c.head_known.new.self, r.below, r.filler, c.head_known.new.home, w) (reader_state c.head_below.new.reader c.head_below.new.home c.head_below.new.store) (known-calls kn be fi OfHead r.below r.filler w true r.known c.head_known.new.self h c.head_known.new.home one) c.head_below.ensures.calls;
+      calls = chain-after (ReaderCall kn be fi OfHead) (has_answer c.head_below.result) (reader_state r h w) (c.head_known.new.self, r.below, r.filler, c.head_known.new.home, w) (reader_state c.head_below.new.reader c.head_below.new.home c.head_below.new.store) (known-calls kn be fi OfHead r.below r.filler w true r.known c.head_known.new.self h c.head_known.new.home one) c.head_below.ensures.calls;
       on = subst (λ s. Reaches (stand r.spot) (stand s)) (sym c.head_below.ensures.spot) (reach-itself (stand r.spot));
       quiet = λ q. untrue (sym (q c.in-Ok.at c.in-Ok.ensures.head) ∙ c.if-at.false);
-      filled = filled-then kn fi r.known c.head_known.new.self c.head_below.new.reader.known r.filler r.filler c.head_below.new.reader.filler h c.head_known.new.home c.head_below.new.home ⊤ (IsFilledFor OfHead (answered c.head_below.result) (kn.knows c.head_below.new.reader.known c.head_below.new.home) (kn.heads c.head_below.new.reader.known c.head_below.new.home) (stand r.spot) (stand c.head_below.new.reader.spot)) (filled-known kn be fi r.below r.filler w r.known c.head_known.new.self h c.head_known.new.home ⊤ left c.head_known.ensures.knows tt) c.head_below.ensures.filled;
+      filled = filled-then kn fi r.known c.head_known.new.self c.head_below.new.reader.known r.filler r.filler c.head_below.new.reader.filler h c.head_known.new.home c.head_below.new.home ⊤ (IsFilledFor OfHead (has_answer c.head_below.result) (kn.knows c.head_below.new.reader.known c.head_below.new.home) (kn.heads c.head_below.new.reader.known c.head_below.new.home) (stand r.spot) (stand c.head_below.new.reader.spot)) (filled-known kn be fi r.below r.filler w r.known c.head_known.new.self h c.head_known.new.home ⊤ left c.head_known.ensures.knows tt) c.head_below.ensures.filled;
       stays = λ writes d. c.head_below.ensures.stays writes (stays-known kn be fi r c.head_known.new.self r.spot r.stage r.lags h c.head_known.new.home w left c.head_known.ensures.knows (reach-itself (stand r.spot)) (carries-same (be.seen r.below h w) (be.seen r.below c.head_known.new.home w) r.stage (stand r.spot) r.spot.tomb left.seen) writes d);
     }
 

@@ -6,7 +6,7 @@ use Rattle.rc_cell.specs.Winner.{greatest}
 use Rattle.rc_position.specs.declared.positions.Pos.{Pos}
 use Rattle.rc_core.specs.AtPlace.{IsAtPlace}
 use Rattle.rc_core.specs.Chains.{IsChainContinuous, NewestIs, at_place}
-use Rattle.rc_core.specs.Change.{split}
+use Rattle.rc_core.specs.Change.{gap_split}
 use Rattle.rc_core.specs.Continuity.{version_tombs, with_entries}
 use Rattle.rc_core.specs.SpotState.{SpotState, through, joined_state}
 use Rattle.rc_core.specs.Merge.{Alike}
@@ -18,7 +18,7 @@ use Rattle.rc_chain.proofs.laws.a_split_version_keeps_what_is_said.Goals as goal
 
 -- a version with an entry at a position
 abbrev is_split : Pos → Version → Version
-is_split x v = with_entries (split x v.entries) v
+is_split x v = with_entries (gap_split x v.entries) v
 
 -- the same states are seen alike
 alike : {now before : List SpotState} → now ≡ before → Alike (through now) (through before)

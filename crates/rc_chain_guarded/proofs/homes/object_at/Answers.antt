@@ -1,5 +1,5 @@
 use Rattle.std.proofs.Common.{arith}
-use Rattle.rc_core.specs.Change.{split}
+use Rattle.rc_core.specs.Change.{gap_split}
 use Rattle.rc_core.specs.Continuity.{with_entries}
 use Rattle.rc_core.specs.Version.{Version}
 use Rattle.rc_chain_guarded.proofs.Limits.{dummy-small, limits-split}
@@ -19,7 +19,7 @@ split-requires c =
             omega (arith, small, room),
             (
               omega (arith, small),
-              last-keeps c.has_room.new.chains c.args.at.chain c.args.at.version (λ (v : Version). with_entries (split c.args.x.now v.entries) v) (c.may_make.ensures.last c.if-not-may_make.false),
+              last-keeps c.has_room.new.chains c.args.at.chain c.args.at.version (λ (v : Version). with_entries (gap_split c.args.x.now v.entries) v) (c.may_make.ensures.last c.if-not-may_make.false),
             ),
           ),
         ),
@@ -29,13 +29,13 @@ split-requires c =
 pub returns-clause-known : goal.returns-clause-known
 returns-clause-known c =
     let m = c.has_room.new.chains in let n = c.split.new.self in let id = c.args.at.chain in let j = c.args.at.version in let x = c.args.x.now in let has = c.may_make.ensures.there c.if-not-may_make.false in
-    known-changed m n id j (λ (v : Version). with_entries (split x v.entries) v) c.split.ensures.changed.chains has c.args.known.now c.forget_bare.new.self c.has_room.ensures.known
+    known-changed m n id j (λ (v : Version). with_entries (gap_split x v.entries) v) c.split.ensures.changed.chains has c.args.known.now c.forget_bare.new.self c.has_room.ensures.known
     c.forget_bare.ensures.held c.forget_bare.ensures.full c.forget_bare.ensures.bare (λ v h. limits-split x v c.requires.limits h)
     (split-listed m n id j has c.known.ensures.sound x c.split.ensures.recency) (split-only m n id j has c.known.ensures.sound x c.split.ensures.recency)
 
 pub returns-clause-there : goal.returns-clause-there
 returns-clause-there c = let id = c.args.at.chain in let j = c.args.at.version in
-    has-still c.has_room.new.chains c.split.new.self id j (λ (v : Version). with_entries (split c.args.x.now v.entries) v) c.split.ensures.changed.chains id j (c.may_make.ensures.there c.if-not-may_make.false)
+    has-still c.has_room.new.chains c.split.new.self id j (λ (v : Version). with_entries (gap_split c.args.x.now v.entries) v) c.split.ensures.changed.chains id j (c.may_make.ensures.there c.if-not-may_make.false)
 
 pub returns-clause-room : goal.returns-clause-room
 returns-clause-room c =

@@ -1,12 +1,12 @@
 -- How far the fragments are filled at each round, and at the end.
 use Rattle.std.proofs.Common.{◌≡◌, ◌∷◌, None, sym, subst, arith}
 use Rattle.std.specs.Prelude.{◌-◌, drop, length, take}
-use Rattle.rc_lookup.specs.calls.Words.{of_its_filler}
+use Rattle.rc_cached.specs.Parts.{of_its_filler}
 use Rattle.rc_core.specs.Version.{end_position}
 use Rattle.rc_position.specs.declared.positions.Pos.{Pos}
 use Rattle.rc_rowcode.specs.Spelling.{KeyFits}
 use Rattle.rc_row_cache.specs.Crowds.{loses-after, loses-nothing}
-use Rattle.rc_lookup.specs.calls.Filling.{AllFit, AllWritten, IsFilling, SaysAll, SaysNone, past}
+use Rattle.rc_lookup.specs.calls.Filling.{FragmentsFit, IsFilling, NoEmptyRows, SaysAll, SaysNone, past}
 use Rattle.rc_lookup.proofs.Limits.{none-fits, none-left, past-fits}
 use Rattle.rc_lookup.proofs.Fills.{filled-then, filling-more, filling-none, known-gap, known-then, split-first}
 use Rattle.rc_lookup.proofs.filling.fill_all.Goals as goal
@@ -46,8 +46,8 @@ loop-left-preserved g c =
       subst (λ y. IsFilling (of_its_filler g.row.S) c.args.frags.now c.args.filler.now c.args.home.now c.args.filler.now c.fill_one.new.home y c.fill_one.new.reached.tomb more) (sym c.in-Ok.ensures.at) (subst (λ t. IsFilling (of_its_filler g.row.S) c.args.frags.now c.args.filler.now c.args.home.now c.args.filler.now c.fill_one.new.home (past x f) t more) (sym c.in-Ok.ensures.tomb) now),
       λ fit.
           let l = c.loop-left.invariant.1 fit in
-          let fits = subst AllFit split l.1 in
-          let written = subst AllWritten split i.written in (
+          let fits = subst FragmentsFit split l.1 in
+          let written = subst NoEmptyRows split i.written in (
             subst (λ (p : Pos). KeyFits p.prefix) (sym c.in-Ok.ensures.at) (past-fits x f l.0 fits.0),
             fits.1,
             loses-after g.row.S 0 c.args.home.now c.loop-left.home c.fill_one.new.home l.2 (c.fill_one.ensures.loses l.0 fits.0 written.0),
@@ -62,8 +62,8 @@ returns-in-Err-clause-loses g c = λ fit.
     let more = take (length left - 1) (drop 1 left) in
     let split : left ≡ f ∷ more = split-first left f _ c.in-len1-up.len_at_least c.frag-item.is in
     let l = c.loop-left.invariant.1 fit in
-    let fits = subst AllFit split l.1 in
-    let written = subst AllWritten split i.written in
+    let fits = subst FragmentsFit split l.1 in
+    let written = subst NoEmptyRows split i.written in
     loses-after g.row.S 0 c.args.home.now c.loop-left.home c.fill_one.new.home l.2 (c.fill_one.ensures.loses l.0 fits.0 written.0)
 
 pub returns-clause-loses : goal.returns-clause-loses

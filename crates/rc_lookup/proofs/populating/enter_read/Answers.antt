@@ -5,11 +5,11 @@ use Rattle.std.proofs.lemmas.List.Elements.{All-cons, All-nil}
 use Rattle.rc_mutation.specs.Source.{SameSource, source_at_head, source_at_static}
 use Rattle.rc_writes.specs.Allowed.{ChangeFits}
 use Rattle.rc_core.specs.Version.{end_position}
-use Rattle.rc_memory.specs.Changes.{member}
+use Rattle.rc_memory.specs.Changes.{member_at}
 use Rattle.rc_memory.specs.Memory.{Memory}
 use Rattle.rc_chain.specs.declared.chains.Snap.{Snap}
 use Rattle.rc_cached.specs.Evictions.{IsRoomMade}
-use Rattle.rc_cached.specs.Filling.{MayFill, given}
+use Rattle.rc_cached.specs.Filling.{MayFill, filled_statics}
 use Rattle.rc_stream.specs.Stream.{Stream}
 use Rattle.rc_stream.specs.Snapshot.{NoneLost}
 use Rattle.rc_row_cache.specs.Found.{entry_number}
@@ -148,9 +148,9 @@ returns-in-Ok-Some-clause-known g c =
     (c.chains_of_the_cache_stay_in_use.ensures.entered S key m.pt m.statics phase es old mid s e) in
     let new = c.fill_entry.new.chains in
     let may : MayFill mid s.chain s.pin = subst (λ r. IfOk r (λ o. IfSome o (λ (x : Snap). MayFill mid x.chain x.pin))) is c.enter.ensures.may in
-    let statics : KnowsStaticRow mid s = entered-statics S key m.pt m.statics phase es old mid s e (made e.made e.room) (c.an_opened_chain_says_what_is_handed_in.ensures.known m.pt (given m.statics) phase) in
-    let listed : Contains mid.recency (member s.chain 0 (Some end_position)) = entered-listed S key m.pt m.statics phase es old mid s e (made e.made e.room) in
-    on-also (MayFill mid s.chain s.pin → NoneLost (losses mid) (losses new) → KnowsStaticRow mid s → Contains mid.recency (member s.chain 0 (Some end_position)) → IsChainKnown new s.chain)
+    let statics : KnowsStaticRow mid s = entered-statics S key m.pt m.statics phase es old mid s e (made e.made e.room) (c.an_opened_chain_says_what_is_handed_in.ensures.known m.pt (filled_statics m.statics) phase) in
+    let listed : Contains mid.recency (member_at s.chain 0 (Some end_position)) = entered-listed S key m.pt m.statics phase es old mid s e (made e.made e.room) in
+    on-also (MayFill mid s.chain s.pin → NoneLost (losses mid) (losses new) → KnowsStaticRow mid s → Contains mid.recency (member_at s.chain 0 (Some end_position)) → IsChainKnown new s.chain)
     (NoneLost (losses old) (losses new) → IsSomeAnd (entry_number es key) (IsChainKnown new))
     c.fill_entry.result c.fill_entry.ensures.known
     (λ k none.

@@ -2,7 +2,7 @@
 use Rattle.std.proofs.Common.{◌≡◌, [], Option, Some, IsSome, inl, inr, refl, sym, ◌∙◌, subst, arith}
 use Rattle.std.specs.Prelude.{Contains}
 use Rattle.rc_core.specs.Version.{end_position}
-use Rattle.rc_memory.specs.Changes.{member}
+use Rattle.rc_memory.specs.Changes.{member_at}
 use Rattle.rc_memory.specs.Memory.{HasChain, KeptChain, Memory, chain_at}
 use Rattle.rc_cached.specs.Lives.{IsChainDropped, IsIdle}
 use Rattle.rc_cached.specs.Filling.{MayFill}
@@ -147,11 +147,11 @@ returns-clause-known g c =
     (subst (λ (y : Memory). (k : KeptChain) → chain_at y s.chain ≡ Some k → IsIdle y s.chain k.chain → IsChainDropped s.chain y.recency y new) back c.sweep.ensures.dropped)
     (subst (λ (y : Memory). (k : KeptChain) → chain_at y s.chain ≡ Some k → (IsIdle y s.chain k.chain → ⊥) → new ≡ y) back c.sweep.ensures.kept) in
     on-also (MayFill old s.chain s.pin → NoneLost (losses old) (losses x) → IsKnownOver (Knows x s) first_position end_position)
-    (MayFill old s.chain s.pin → NoneLost (losses old) (losses new) → KnowsStaticRow old s → Contains old.recency (member s.chain 0 (Some end_position)) → IsChainKnown new s.chain)
+    (MayFill old s.chain s.pin → NoneLost (losses old) (losses new) → KnowsStaticRow old s → Contains old.recency (member_at s.chain 0 (Some end_position)) → IsChainKnown new s.chain)
     c.fill_read-filled.result c.fill_read-filled.ensures.known
     (λ k may none statics listed.
     let unlost : NoneLost (losses old) (losses x) = subst (NoneLost (losses old)) (swept-lost s x new h.chain h.there h.cached swept) none in
-    known-swept s x new h swept (c.fill_read-filled.ensures.may may) (through.statics unlost statics) (k may unlost) 0 (Some end_position) (through.listed unlost (member s.chain 0 (Some end_position)) listed))
+    known-swept s x new h swept (c.fill_read-filled.ensures.may may) (through.statics unlost statics) (k may unlost) 0 (Some end_position) (through.listed unlost (member_at s.chain 0 (Some end_position)) listed))
 
 pub returns-clause-loses : goal.returns-clause-loses
 returns-clause-loses g c = λ schema limits fits.

@@ -14,7 +14,7 @@ use Rattle.rc_row_cache.specs.Fillers.{FillerKnows, losses}
 use Rattle.rc_cached.specs.Stands.{HasCacheSnapshot, StandsForWrites}
 use Rattle.rc_snapshots.specs.Streams.{first_position}
 use Rattle.rc_row_cache.specs.Crowds.{loses-nothing}
-use Rattle.rc_lookup.specs.calls.Filling.{AllFit, AllWritten, SaysAll}
+use Rattle.rc_lookup.specs.calls.Filling.{FragmentsFit, NoEmptyRows, SaysAll}
 use Rattle.rc_lookup.proofs.Limits.{all-fit}
 use Rattle.rc_lookup.proofs.Gathered.{on-also}
 use Rattle.rc_lookup.proofs.Said.{all-written, says-all}
@@ -38,7 +38,7 @@ fill_all-requires g c =
       (
         record { snapshot = at-filler S (λ id pin. HasCacheSnapshot old id pin) s f of c.requires.stands.1.snapshot; roomy = c.requires.roomy },
         (
-          subst AllWritten (sym list) (all-written m left reads),
+          subst NoEmptyRows (sym list) (all-written m left reads),
           (writes, at-filler S (λ id pin. StandsForWrites S old id pin writes) s f of c.requires.stands.1, subst (SaysAll writes first_position None) (sym list) (says-all m left reads writes c.requires.stands.2)),
         ),
       ),
@@ -120,7 +120,7 @@ pub returns-in-Ok-clause-loses : goal.returns-in-Ok-clause-loses
 returns-in-Ok-clause-loses g c = λ schema limits fits.
     let m = c.args.read.now in
     let list : c.as_slice.result.now ≡ fragments m = c.as_slice.ensures ∙ subst (λ r. IfOk r (λ (l : List Frag). l ≡ fragments m)) c.in-Ok.is c.fragments.ensures in
-    c.fill_all.ensures.loses (subst AllFit (sym list) (all-fit schema m c.holds_together.ensures limits fits))
+    c.fill_all.ensures.loses (subst FragmentsFit (sym list) (all-fit schema m c.holds_together.ensures limits fits))
 
 pub returns-in-Err-clause-loses : goal.returns-in-Err-clause-loses
 returns-in-Err-clause-loses g c = λ schema limits fits. loses-nothing g.row.S c.args.chains.now

@@ -1,6 +1,6 @@
 -- Version by version, from the oldest.
 use Rattle.std.proofs.Common.{arith}
-use Rattle.rc_lookup.specs.calls.Recent.{IsFrom}
+use Rattle.rc_lookup.specs.calls.Recent.{IsOfVersionOrNewer}
 use Rattle.rc_lookup.proofs.Recent.{raise-end, raise-start}
 use Rattle.rc_lookup.proofs.Walked.{has-number, none-from}
 use Rattle.rc_lookup.proofs.touching.touch_all.Goals as goal
@@ -21,6 +21,6 @@ loop-number-preserved g c = c.touch_entries.ensures c.args.chains.now (c.touch_s
 
 pub returns : goal.returns
 returns g c =
-    raise-end c.args.id (IsFrom c.loop-number.number) (IsFrom c.loop-number.number) c.args.chains.now c.loop-number.chains c.loop-number.invariant
+    raise-end c.args.id (IsOfVersionOrNewer c.loop-number.number) (IsOfVersionOrNewer c.loop-number.number) c.args.chains.now c.loop-number.chains c.loop-number.invariant
     (none-from c.args.chains.now c.args.id c.loop-number.number c.known.ensures.rule c.requires (λ k there. (let all = c.versions-number-end.ensures k there in let end = c.loop-number-test.false in omega (arith, all, end))))
     c.known-2.ensures.rule.once

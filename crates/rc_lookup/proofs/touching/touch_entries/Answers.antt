@@ -3,7 +3,7 @@ use Rattle.std.proofs.Common.{◌∷◌, ◌++◌, ◌+◌, Some, refl, sym, ap,
 use Rattle.lsa_region.specs.Region.{IsSummed, IsWell, View, objects}
 use Rattle.lsa_tree.specs.Tree.{IsTree}
 use Rattle.rc_version.specs.Versions.{tree_of}
-use Rattle.rc_memory.specs.Changes.{member}
+use Rattle.rc_memory.specs.Changes.{member_at}
 use Rattle.rc_lookup.proofs.Walked.{IsWalkedIn, entries-few, entry-member, next-there, of-tree, placed, still-tree, walk-begun, walk-ended, walk-more, walk-passed}
 use Rattle.rc_lookup.proofs.touching.touch_entries.Goals as goal
 
@@ -33,8 +33,8 @@ touch_listed-requires g c =
     let p = placed m id number n c.places_stand.ensures c.requires c.version-v.ensures in
     let w = c.loop-steps.invariant n refl p in
     let a = next-there id number m p.standing.entries c.in-Some.e c.loop-steps.next c.loop-steps.steps now w c.in-Some.is in
-    let at = w.still.objects c.in-Some.e (member id number (Some a.entry.position)) (λ x. x) (entry-member m id number n p a.passed a.back c.in-Some.e a.entry a.split a.here) in
-    (omega arith, (member id number (Some a.entry.position), at))
+    let at = w.still.objects c.in-Some.e (member_at id number (Some a.entry.position)) (λ x. x) (entry-member m id number n p a.passed a.back c.in-Some.e a.entry a.split a.here) in
+    (omega arith, (member_at id number (Some a.entry.position), at))
 
 pub loop-steps-preserved : goal.loop-steps-preserved
 loop-steps-preserved g c = λ q e.
@@ -43,8 +43,8 @@ loop-steps-preserved g c = λ q e.
     let w = c.loop-steps.invariant n refl p in
     let a = next-there id number m p.standing.entries c.in-Some.e c.loop-steps.next c.loop-steps.steps now w c.in-Some.is in
     let tree = subst (λ (view : View). IsTree (tree_of n) view (a.passed ++ (c.in-Some.e ∷ a.back))) (sym c.region-in-Some.ensures) (subst (IsTree (tree_of n) now.region) a.split (still-tree m id number n p now w.same c.places_stand-in-Some.ensures (w.still.versions id number n c.version-v.ensures))) in
-    let at = w.still.objects c.in-Some.e (member id number (Some a.entry.position)) (λ x. x) (entry-member m id number n p a.passed a.back c.in-Some.e a.entry a.split a.here) in
-    walk-more id number m p.standing.entries c.in-Some.e c.loop-steps.next c.next-next.result c.loop-steps.steps now c.touch_listed.new.chains w a (c.next-next.ensures a.passed a.back tree) (c.touch_listed.ensures (member id number (Some a.entry.position)) at))
+    let at = w.still.objects c.in-Some.e (member_at id number (Some a.entry.position)) (λ x. x) (entry-member m id number n p a.passed a.back c.in-Some.e a.entry a.split a.here) in
+    walk-more id number m p.standing.entries c.in-Some.e c.loop-steps.next c.next-next.result c.loop-steps.steps now c.touch_listed.new.chains w a (c.next-next.ensures a.passed a.back tree) (c.touch_listed.ensures (member_at id number (Some a.entry.position)) at))
 
 pub returns-in-None : goal.returns-in-None
 returns-in-None g c = λ before h.

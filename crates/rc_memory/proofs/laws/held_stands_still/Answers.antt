@@ -1,5 +1,5 @@
 use Rattle.std.proofs.Common.{ap}
-use Rattle.rc_memory.specs.Changes.{AtAlone, Nowhere, member}
+use Rattle.rc_memory.specs.Changes.{AtAlone, Nowhere, member_at}
 use Rattle.rc_memory.specs.laws.Still.{changed-listed, is-changed, listed-changed, still-listed, unmoved-listed}
 use Rattle.rc_memory.proofs.laws.held_stands_still.Goals as goal
 
@@ -7,8 +7,8 @@ pub returns-clause-everywhere : goal.returns-clause-everywhere
 returns-clause-everywhere c = λ slots old new registry counts m id j p s now d f h there number kept is does rows. is-changed slots old new registry counts m h id j p s there number now d kept is f Nowhere does (λ at r off a. rows at r a)
 
 pub returns-clause-beside : goal.returns-clause-beside
-returns-clause-beside c = λ slots old new registry counts m id j p s now d f place h there number kept is does rows. is-changed slots old new registry counts m h id j p s there number now d kept is f (AtAlone (member id j place)) does
-    (λ at r off a. rows at r (λ e. off (ap (λ y. member id j y) e)) a)
+returns-clause-beside c = λ slots old new registry counts m id j p s now d f place h there number kept is does rows. is-changed slots old new registry counts m h id j p s there number now d kept is f (AtAlone (member_at id j place)) does
+    (λ at r off a. rows at r (λ e. off (ap (λ y. member_at id j y) e)) a)
 
 pub returns-clause-listed : goal.returns-clause-listed
 returns-clause-listed c = λ slots old new registry counts m list h elsewhere objects well. (still-listed slots old new registry counts m h elsewhere objects well list, unmoved-listed slots old new registry counts m h elsewhere objects well list)

@@ -1,7 +1,7 @@
 -- What both memtables say joins to one mutation, and with what the tables said to another one, of which the merge of all is the stream.
 use Rattle.std.proofs.Common.{◌≡◌, ◌++◌, refl, sym, ap, subst, ◌∙◌}
 use Rattle.rc_mutation.specs.Fragments.{fragments}
-use Rattle.rc_stream.specs.Merging.{IsOrdered, merged}
+use Rattle.rc_stream.specs.Merging.{IsOrdered, merged_stream}
 use Rattle.rc_stream.specs.Stream.{Stream, stream_of}
 use Rattle.rc_reader.specs.Left.{slice_lines}
 use Rattle.rc_opened.specs.Opened.{no_files}
@@ -37,12 +37,12 @@ returns-clause-seen g c = λ schema tables said writes later snaps m s is_tables
     (fresh.seen _ writes a.0 m a.1 a.2 (λ z r n sees. law z r writes m no_files n sees schema a.0 a.1 fit_a same_a) snaps.sealed new.sealed.stream new.new_sealed sealed)
     (fresh.seen _ later b.0 m b.1 b.2 (λ z r n sees. law z r later m no_files n sees schema b.0 b.1 fit_b same_b) snaps.active new.active.stream new.new_active active)
     (start a.0 a.1).0 (start b.0 b.1).0 (start a.0 a.1).1 (start b.0 b.1).1 in
-    let written : Stream = merged (stream_of (fragments a.0)) (stream_of (fragments b.0)) in
+    let written : Stream = merged_stream (stream_of (fragments a.0)) (stream_of (fragments b.0)) in
     let same : written ≡ stream_of (fragments ab.0) = join a.0 b.0 ab.0 a.1 b.1 ab.1 ab.2 in (
-      merged (stream_of (fragments tables)) written,
+      merged_stream (stream_of (fragments tables)) written,
       c.a_new_merge_stands_for_both-2.ensures.seen (stream_of (fragments tables)) new.inner s m no_files (stream_of (fragments tables)) written new.all refl inner
           (start tables is_tables).0 (ap (λ (z : Stream). z.tomb) same ∙ (start ab.0 ab.1).0) (start tables is_tables).1 (subst (λ (z : Stream). IsOrdered z.left) (sym same) (start ab.0 ab.1).1),
-      λ slice. ap (λ z. slice_lines slice (merged (stream_of (fragments tables)) z)) same
+      λ slice. ap (λ z. slice_lines slice (merged_stream (stream_of (fragments tables)) z)) same
           ∙ ap (slice_lines slice) (join tables ab.0 all.0 is_tables ab.1 all.1 all.2)
           ∙ c.the_lines_of_a_mutation_are_its_answer.ensures.joined all.0 (said ++ (writes ++ later)) slice all.1 (all_said tables a.0 b.0 ab.0 all.0 said writes later j a.2 b.2 ab.2 all.2),
     )

@@ -1,6 +1,6 @@
 -- What one call keeps.
 use Rattle.std.proofs.Common.{inl}
-use Rattle.rc_stream.specs.Did.{answered, Call.OfNext}
+use Rattle.rc_stream.specs.Did.{Call.OfNext, has_answer}
 use Rattle.rc_stream.specs.laws.Ordered.{passes-itself}
 use Rattle.rc_paging.proofs.Called.{CallLaws, keeps_cache}
 use Rattle.rc_paging.proofs.filling.pass_one.Goals as goal
@@ -9,10 +9,10 @@ pub returns-in-Ok-clause-kept : goal.returns-in-Ok-clause-kept
 returns-in-Ok-clause-kept g c =
     let laws : CallLaws g.row.S = record { leaves = c.a_cached_stream_leaves_what_others_see.ensures.did; handed = c.a_cached_stream_misses_only_what_is_not_known.ensures.handed; known = c.a_cached_stream_misses_only_what_is_not_known.ensures.known } in
     let y = c.args.upto.now in
-    keeps_cache g.row.S laws c.args.cached.now.stream c.next.new.self.stream c.args.chains.now c.args.readings.now (OfNext y) (answered c.next.result) c.next.new.home c.next.new.store (c.next.ensures.did y (inl (passes-itself y)))
+    keeps_cache g.row.S laws c.args.cached.now.stream c.next.new.self.stream c.args.chains.now c.args.readings.now (OfNext y) (has_answer c.next.result) c.next.new.home c.next.new.store (c.next.ensures.did y (inl (passes-itself y)))
 
 pub returns-in-Err-clause-kept : goal.returns-in-Err-clause-kept
 returns-in-Err-clause-kept g c =
     let laws : CallLaws g.row.S = record { leaves = c.a_cached_stream_leaves_what_others_see.ensures.did; handed = c.a_cached_stream_misses_only_what_is_not_known.ensures.handed; known = c.a_cached_stream_misses_only_what_is_not_known.ensures.known } in
     let y = c.args.upto.now in
-    keeps_cache g.row.S laws c.args.cached.now.stream c.next.new.self.stream c.args.chains.now c.args.readings.now (OfNext y) (answered c.next.result) c.next.new.home c.next.new.store (c.next.ensures.did y (inl (passes-itself y)))
+    keeps_cache g.row.S laws c.args.cached.now.stream c.next.new.self.stream c.args.chains.now c.args.readings.now (OfNext y) (has_answer c.next.result) c.next.new.home c.next.new.store (c.next.ensures.did y (inl (passes-itself y)))

@@ -1,7 +1,7 @@
 -- What both memtables say joins to one mutation, and with what the tables say to another one, of which the merge of all is the stream.
 use Rattle.std.proofs.Common.{◌≡◌, ◌++◌, sym, ap, subst, ◌∙◌}
 use Rattle.rc_mutation.specs.Fragments.{fragments}
-use Rattle.rc_stream.specs.Merging.{IsOrdered, merged}
+use Rattle.rc_stream.specs.Merging.{IsOrdered, merged_stream}
 use Rattle.rc_stream.specs.Stream.{Stream, stream_of}
 use Rattle.rc_reader.specs.Left.{slice_lines}
 use Rattle.rc_paging.specs.Layers.{IsCacheLayerOf, IsMemtableLayerOf, OfLayers, active_in, cached_in, sealed_in}
@@ -63,13 +63,13 @@ returns-clause-seen g c = λ schema below writes later held m w s tables fits mo
     (memtable_seen _ writes a.0 m a.1 a.2 (λ z r n sees. law.seen z r writes m w n sees schema a.0 a.1 fit_a same_a) law.made held.written.sealed new.sealed.stream new.new_sealed stand.sealed)
     (memtable_seen _ later b.0 m b.1 b.2 (λ z r n sees. law.seen z r later m w n sees schema b.0 b.1 fit_b same_b) law.made held.written.active new.active.stream new.new_active stand.active)
     (start a.0 a.1).0 (start b.0 b.1).0 (start a.0 a.1).1 (start b.0 b.1).1 in
-    let written : Stream = merged (stream_of (fragments a.0)) (stream_of (fragments b.0)) in
+    let written : Stream = merged_stream (stream_of (fragments a.0)) (stream_of (fragments b.0)) in
     let same : written ≡ stream_of (fragments ab.0) = join a.0 b.0 ab.0 a.1 b.1 ab.1 ab.2 in (
-      merged written (stream_of (fragments d.0)),
+      merged_stream written (stream_of (fragments d.0)),
       c.a_new_merge_stands_for_both-2.ensures.seen new.inner new.cached s m w written (stream_of (fragments d.0)) new.all inner
           (cache_seen g.row.S _ below d.0 m d.1 d.2 (λ z r n st. cache z r m w below n st.stands say d.0 d.1 same_d) held.cached new.cached.stream new.new_cached stand.cached)
           (ap (λ (z : Stream). z.tomb) same ∙ (start ab.0 ab.1).0) (start d.0 d.1).0 (subst (λ (z : Stream). IsOrdered z.left) (sym same) (start ab.0 ab.1).1) (start d.0 d.1).1,
-      λ slice. ap (λ z. slice_lines slice (merged z (stream_of (fragments d.0)))) same
+      λ slice. ap (λ z. slice_lines slice (merged_stream z (stream_of (fragments d.0)))) same
           ∙ ap (slice_lines slice) (join ab.0 d.0 all.0 ab.1 d.1 all.1 all.2)
           ∙ c.the_lines_of_a_mutation_are_its_answer.ensures.joined all.0 (below ++ (writes ++ later)) slice all.1 (all_said a.0 b.0 ab.0 d.0 all.0 below writes later a.2 b.2 ab.2 d.2 all.2),
     )

@@ -1,6 +1,6 @@
 -- The lines that are left behind those that were passed; and what both calls keep.
 use Rattle.std.proofs.Common.{inl, sym, ap, subst, ◌∙◌, drop}
-use Rattle.rc_stream.specs.Did.{answered}
+use Rattle.rc_stream.specs.Did.{has_answer}
 use Rattle.rc_stream.specs.laws.Ordered.{passes-itself}
 use Rattle.rc_reader.specs.Left.{left_after}
 use Rattle.rc_paging.specs.calls.Keeping.{KeptLayers, Three}
@@ -31,8 +31,8 @@ returns-in-Ok-clause-kept g c =
     let s : Three = (c.args.reader.stream, c.args.chains.now, c.args.readings.now) in
     let t : Three = (c.read.new.self.stream, c.read.new.home, c.read.new.store) in
     let u : Three = (c.read-gave.new.self.stream, c.read-gave.new.home, c.read-gave.new.store) in
-    let one = called g.row.S laws x (answered c.read.result) s t (c.read.ensures.did x (inl (passes-itself x))) in
-    let two = called g.row.S laws y (answered c.read-gave.result) t u (c.read-gave.ensures.did y (inl (passes-itself y))) in
+    let one = called g.row.S laws x (has_answer c.read.result) s t (c.read.ensures.did x (inl (passes-itself x))) in
+    let two = called g.row.S laws y (has_answer c.read-gave.result) t u (c.read-gave.ensures.did y (inl (passes-itself y))) in
     subst (λ z. KeptLayers g.row.S s (z, c.read-gave.new.home, c.read-gave.new.store)) (sym c.into_stream.ensures) (kept_then g.row.S s t u one two)
 
 pub returns-in-Err-clause-kept : goal.returns-in-Err-clause-kept
@@ -41,5 +41,5 @@ returns-in-Err-clause-kept g c =
     let x = c.args.reader.work.to in
     let s : Three = (c.args.reader.stream, c.args.chains.now, c.args.readings.now) in
     let t : Three = (c.read.new.self.stream, c.read.new.home, c.read.new.store) in
-    let one = called g.row.S laws x (answered c.read.result) s t (c.read.ensures.did x (inl (passes-itself x))) in
+    let one = called g.row.S laws x (has_answer c.read.result) s t (c.read.ensures.did x (inl (passes-itself x))) in
     subst (λ z. KeptLayers g.row.S s (z, c.read.new.home, c.read.new.store)) (sym c.into_stream-in-Err.ensures) one

@@ -1,7 +1,7 @@
 use Rattle.std.proofs.Common.{◌≡◌, ℕ, [], Option, refl, sym, ap, ◌∙◌, subst}
 use Rattle.std.specs.Prelude.{IsTrue}
 use Rattle.rc_core.specs.declared.entries.ChainKind.TheVariants.{Cache}
-use Rattle.rc_core.specs.Chain.{flagged, states_at}
+use Rattle.rc_core.specs.Chain.{has_flag, states_at}
 use Rattle.rc_cell.specs.declared.rows.Row.{Row}
 use Rattle.rc_position.specs.Position.{Head}
 use Rattle.rc_core.specs.Chains.{Shown, at_place, upto}
@@ -19,7 +19,7 @@ pub returns : goal.returns
 returns c = record {
   known = λ d j statics m.
       let f = fill_statics statics in let n = newest f d.versions j m.newest in
-      subst (λ us. IsTrue (flagged Cache (static_states us))) (sym (after f d.versions j m.newest)) (c.a_filled_static_row_is_known_and_keeps_continuity.ensures.known n.older n.newest statics);
+      subst (λ us. IsTrue (has_flag Cache (static_states us))) (sym (after f d.versions j m.newest)) (c.a_filled_static_row_is_known_and_keeps_continuity.ensures.known n.older n.newest statics);
   elsewhere = same;
   head = λ d j statics m.
       let f = fill_statics statics in let n = newest f d.versions j m.newest in

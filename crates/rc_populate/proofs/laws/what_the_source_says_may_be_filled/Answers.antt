@@ -15,7 +15,7 @@ use Rattle.rc_core.specs.laws.Losing.{each-one}
 use Rattle.rc_core.specs.laws.Standing.{Stand, above-zero, stand-at}
 use Rattle.rc_memory.specs.Memory.{IsVersionAt}
 use Rattle.rc_memory.specs.laws.At.{number-low}
-use Rattle.rc_populate.specs.Filling.{given}
+use Rattle.rc_populate.specs.Filling.{filled_statics}
 use Rattle.rc_populate.proofs.laws.what_the_source_says_may_be_filled.Goals as goal
 
 pub returns : goal.returns
@@ -30,6 +30,6 @@ returns c = record {
         (ap (λ us. upto us j) at.split ∙ ap (λ (s : Stand). s.1) (stand-at j at.older at.newer v (sym at.number ∙ sym (above-zero (length at.older)))))
         (k.within j (number-low d.versions j v at))
 
-    joined : (row : Row) → IsRow row → (b : Bool) → is_written row ≡ b → joined_row (option_to_list (given row)) ≡ row
+    joined : (row : Row) → IsRow row → (b : Bool) → is_written row ≡ b → joined_row (option_to_list (filled_statics row)) ≡ row
     joined row is true e = subst (λ (b : Bool). joined_row (option_to_list (cond b (Some row) None)) ≡ row) (sym e) (joined_row-one row is)
     joined row is false e = subst (λ (b : Bool). joined_row (option_to_list (cond b (Some row) None)) ≡ row) (sym e) (joined_row-none ∙ sym (unwritten row e))

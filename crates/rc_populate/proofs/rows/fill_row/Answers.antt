@@ -5,7 +5,7 @@ use Rattle.rc_position.specs.Position.{row_pos}
 use Rattle.rc_core.specs.Continuity.{IsWithin}
 use Rattle.rc_core.specs.Steps.{row_filled, row_joined}
 use Rattle.rc_core.specs.Version.{On, state_at}
-use Rattle.rc_memory.specs.Changes.{AtAlone, IsRenewed, member}
+use Rattle.rc_memory.specs.Changes.{AtAlone, IsRenewed, member_at}
 use Rattle.rc_populate.specs.Filling.{IsFilled}
 use Rattle.rc_populate.specs.Marked.{known_at}
 use Rattle.rc_populate.proofs.Changed.{changed-both, last-free}
@@ -23,26 +23,26 @@ join_row-e-requires g c =
     (omega arith, (c.requires.key, ((c.requires.row, c.requires.small), (has-newest m id pin c.requires.may j pins, (row-spare g.row.S m id j x row c.args.tomb source c.requires.spare, (fits-newest m id pin c.requires.may j pins g.row.S (row_joined x row) c.requires.fits, last-free m id j (row_joined x row) (settled m id pin c.requires.may j pins)))))))
 
 pub know-requires : goal.know-requires
-know-requires g c = let x = row_pos c.args.key.now in (omega arith, (member c.args.s.now.chain c.pinned_at-newest.result (Some x), x, refl, c.join_row-e.ensures.here))
+know-requires g c = let x = row_pos c.args.key.now in (omega arith, (member_at c.args.s.now.chain c.pinned_at-newest.result (Some x), x, refl, c.join_row-e.ensures.here))
 
 pub returns-clause-filled : goal.returns-clause-filled
 returns-clause-filled g c =
-    let m = c.args.chains.now in let id = c.args.s.now.chain in let pin = c.args.s.now.pin in let j = c.pinned_at-newest.result in let pins = c.pinned_at-newest.ensures in let x = row_pos c.args.key.now in let row = c.args.row.now in let w = member id j (Some x) in
+    let m = c.args.chains.now in let id = c.args.s.now.chain in let pin = c.args.s.now.pin in let j = c.pinned_at-newest.result in let pins = c.pinned_at-newest.ensures in let x = row_pos c.args.key.now in let row = c.args.row.now in let w = member_at id j (Some x) in
     let both = changed-both id j (AtAlone w) (row_joined x row) (known_at x c.args.tomb) m c.join_row-e.new.self c.know.new.chains c.join_row-e.ensures.joined (c.know.ensures.known w x refl c.join_row-e.ensures.here) in
-    pinned-of m id pin c.requires.may j pins (λ k i v. IsFilled id (row_filled x row c.args.tomb) (AtAlone (member id i (Some x))) m c.count_shrunk.new.chains)
+    pinned-of m id pin c.requires.may j pins (λ k i v. IsFilled id (row_filled x row c.args.tomb) (AtAlone (member_at id i (Some x))) m c.count_shrunk.new.chains)
     (λ k v e at. filled-then id j (row_filled x row c.args.tomb) (AtAlone w) m c.know.new.chains c.count_shrunk.new.chains c.live-before.result both (c.live-before.ensures ∙ ap live_bytes c.region.ensures) c.count_shrunk.ensures (newest-number m id pin c.requires.may j pins) k e)
 
 pub returns-clause-listed : goal.returns-clause-listed
 returns-clause-listed g c =
-    let m = c.args.chains.now in let id = c.args.s.now.chain in let pin = c.args.s.now.pin in let j = c.pinned_at-newest.result in let pins = c.pinned_at-newest.ensures in let x = row_pos c.args.key.now in let row = c.args.row.now in let w = member id j (Some x) in
+    let m = c.args.chains.now in let id = c.args.s.now.chain in let pin = c.args.s.now.pin in let j = c.pinned_at-newest.result in let pins = c.pinned_at-newest.ensures in let x = row_pos c.args.key.now in let row = c.args.row.now in let w = member_at id j (Some x) in
     let both = changed-both id j (AtAlone w) (row_joined x row) (known_at x c.args.tomb) m c.join_row-e.new.self c.know.new.chains c.join_row-e.ensures.joined (c.know.ensures.known w x refl c.join_row-e.ensures.here) in
     let same = list-then id j (row_filled x row c.args.tomb) (AtAlone w) m c.know.new.chains c.count_shrunk.new.chains c.live-before.result both (c.live-before.ensures ∙ ap live_bytes c.region.ensures) c.count_shrunk.ensures in
-    pinned-of m id pin c.requires.may j pins (λ k i v. IsRenewed k.chain.kind (member id i (Some x)) m.recency c.count_shrunk.new.chains.recency)
+    pinned-of m id pin c.requires.may j pins (λ k i v. IsRenewed k.chain.kind (member_at id i (Some x)) m.recency c.count_shrunk.new.chains.recency)
     (λ k v e at. subst (IsRenewed k.chain.kind w m.recency) (sym (same ∙ c.know.ensures.recency)) (c.join_row-e.ensures.recency k v e at))
 
 pub returns-clause-spare : goal.returns-clause-spare
 returns-clause-spare g c =
-    let m = c.args.chains.now in let id = c.args.s.now.chain in let pin = c.args.s.now.pin in let j = c.pinned_at-newest.result in let pins = c.pinned_at-newest.ensures in let x = row_pos c.args.key.now in let row = c.args.row.now in let w = member id j (Some x) in
+    let m = c.args.chains.now in let id = c.args.s.now.chain in let pin = c.args.s.now.pin in let j = c.pinned_at-newest.result in let pins = c.pinned_at-newest.ensures in let x = row_pos c.args.key.now in let row = c.args.row.now in let w = member_at id j (Some x) in
     let both = changed-both id j (AtAlone w) (row_joined x row) (known_at x c.args.tomb) m c.join_row-e.new.self c.know.new.chains c.join_row-e.ensures.joined (c.know.ensures.known w x refl c.join_row-e.ensures.here) in
     let same = ap (λ (v : View). spare_of g.row.S v.usages) (region-then id j (row_filled x row c.args.tomb) (AtAlone w) m c.know.new.chains c.count_shrunk.new.chains c.live-before.result both (c.live-before.ensures ∙ ap live_bytes c.region.ensures) c.count_shrunk.ensures) in
     let source = of-pinned m id pin c.requires.may j pins (λ k i v. IsWithin (state_at (On x) v) (row, c.args.tomb)) c.requires.source in

@@ -2,7 +2,7 @@ use Rattle.std.proofs.Common.{arith, sym, ap, ◌∙◌, subst}
 use Rattle.lsa_tree.specs.Search.{IsFound}
 use Rattle.rc_core.specs.laws.Spots.{position-reached}
 use Rattle.rc_core.specs.Slow.{spot_at}
-use Rattle.rc_core.specs.Version.{seen}
+use Rattle.rc_core.specs.Version.{finding_in}
 use Rattle.rc_partition.specs.Holding.{each-earlier, never-all}
 use Rattle.rc_reading.specs.calls.Reading.{IsFindingRead}
 use Rattle.rc_reading.proofs.Findings.{found-gap, found-on}
@@ -22,7 +22,7 @@ unreachable-requires g c =
 pub returns-in-Here-On : goal.returns-in-Here-On
 returns-in-Here-On g c = λ refs d h.
     let w = found-on c.args.region.now c.args.v refs d h c.args.x.now c.in-Here-On.e (c.in-Here-On.ensures refs h.tree) in
-    subst (IsFindingRead c.args.region.now c.at_entry.result) (sym (ap (λ which. seen (spot_at which c.args.x.now) d.entries) c.in-Here-On.is-1 ∙ w.2)) (c.at_entry.ensures w.0 w.1)
+    subst (IsFindingRead c.args.region.now c.at_entry.result) (sym (ap (λ which. finding_in (spot_at which c.args.x.now) d.entries) c.in-Here-On.is-1 ∙ w.2)) (c.at_entry.ensures w.0 w.1)
 
 pub returns-in-Before-default : goal.returns-in-Before-default
 returns-in-Before-default g c = λ refs d h.

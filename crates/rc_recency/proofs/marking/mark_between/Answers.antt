@@ -1,6 +1,6 @@
 use Rattle.std.proofs.Common.{refl, arith}
-use Rattle.rc_core.specs.Change.{changed}
-use Rattle.rc_version.specs.Versions.{marked, marked_between}
+use Rattle.rc_core.specs.Change.{entry_changed}
+use Rattle.rc_version.specs.Versions.{mark_after, marked_between}
 use Rattle.rc_recency.proofs.Aligned.{positions-each}
 use Rattle.rc_recency.specs.laws.Held.{standing-as, stands}
 use Rattle.rc_recency.proofs.Marked.{between-bytes, held-marked}
@@ -12,5 +12,5 @@ mark_between-requires g c = let q = c.requires.version in
 
 pub returns-clause-changed : goal.returns-clause-changed
 returns-clause-changed g c = λ slots registry counts m id j k d h. let e = c.mark_between.ensures in let old = c.args.region.now in let from = c.args.from.now in let to = c.args.to.now in
-    held-marked slots old c.mark_between.new.region registry counts m id j k d c.args.v h (marked_between (marked c.args.marking) from to) (e.marked (standing-as slots old registry counts m id j k d c.args.v h).entries d (stands slots old registry counts m id j k d c.args.v h)) e.kept
-    c.known.ensures.summed c.known-2.ensures.well c.known-2.ensures.summed (between-bytes (marked c.args.marking) from to d) (positions-each (changed (marked c.args.marking) from to) (λ x. refl) d.entries) e.live e.statics
+    held-marked slots old c.mark_between.new.region registry counts m id j k d c.args.v h (marked_between (mark_after c.args.marking) from to) (e.marked (standing-as slots old registry counts m id j k d c.args.v h).entries d (stands slots old registry counts m id j k d c.args.v h)) e.kept
+    c.known.ensures.summed c.known-2.ensures.well c.known-2.ensures.summed (between-bytes (mark_after c.args.marking) from to d) (positions-each (entry_changed (mark_after c.args.marking) from to) (λ x. refl) d.entries) e.live e.statics

@@ -6,7 +6,7 @@ use Rattle.rc_core.specs.Change.{drop_at}
 use Rattle.rc_core.specs.Continuity.{with_entries}
 use Rattle.rc_core.specs.Version.{end_position}
 use Rattle.rc_version.specs.Versions.{IsVersionOf}
-use Rattle.rc_memory.specs.Changes.{AtAlone, member}
+use Rattle.rc_memory.specs.Changes.{AtAlone, member_at}
 use Rattle.rc_memory.specs.Memory.{listed_as}
 use Rattle.rc_recency.specs.laws.Held.{own-object}
 use Rattle.rc_recency.proofs.Made.{later-dropped}
@@ -16,7 +16,7 @@ use Rattle.rc_recency.proofs.splitting.drop_entry.Goals as goal
 
 pub drop_entry-requires : goal.drop_entry-requires
 drop_entry-requires g c =
-    let q = c.requires in let h = q.8 in let here = q.9 in let w = member q.3 q.4 (Some q.7) in let old = c.args.region.now in let mid = c.take.new.region in
+    let q = c.requires in let h = q.8 in let here = q.9 in let w = member_at q.3 q.4 (Some q.7) in let old = c.args.region.now in let mid = c.take.new.region in
     let t = c.take.ensures.taken q.0 q.1 q.2 w h.held here in let now = listed_as t.list mid q.2 in
     let again = member-listed c.args.list.now old mid q.0 q.1 q.2 t.list h.held c.take.ensures.relisted c.take.ensures.well c.args.e w here in
     let held = held-mid c.args.list.now old mid q.0 q.1 q.2 q.3 q.4 q.5 q.6 c.args.v h (Some q.7) t in
@@ -31,7 +31,7 @@ drop_entry-requires g c =
 
 pub returns-clause-changed : goal.returns-clause-changed
 returns-clause-changed g c = λ registry counts m id j k d x h here.
-    let w = member id j (Some x) in let old = c.args.region.now in let mid = c.take.new.region in let new = c.drop_entry.new.region in let e = c.drop_entry.ensures in
+    let w = member_at id j (Some x) in let old = c.args.region.now in let mid = c.take.new.region in let new = c.drop_entry.new.region in let e = c.drop_entry.ensures in
     let t = c.take.ensures.taken registry counts m w h.held here in
     let again = member-listed c.args.list.now old mid registry counts m t.list h.held c.take.ensures.relisted c.take.ensures.well c.args.e w here in
     let held = held-mid c.args.list.now old mid registry counts m id j k d c.args.v h (Some x) t in

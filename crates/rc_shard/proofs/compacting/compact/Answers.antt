@@ -2,7 +2,7 @@
 use Rattle.std.proofs.Common.{sym, ◌∙◌, subst, arith}
 use Rattle.rc_lookup.specs.Unstored.{Unstored}
 use Rattle.rc_shard.specs.Compacting.{AreSparseEmptied}
-use Rattle.rc_shard.specs.calls.Storing.{IsKept}
+use Rattle.rc_shard.specs.calls.Storing.{KeepsUnstored}
 use Rattle.rc_shard.proofs.Compacted.{all-done, compacting-none, none-left, one-emptied}
 use Rattle.rc_shard.proofs.Standing.{kept-itself, kept-then, room-kept}
 use Rattle.rc_shard.proofs.compacting.compact.Goals as goal
@@ -21,7 +21,7 @@ loop-left-preserved c =
     )
 
 pub returns-then-not-compact_one-clause-kept : goal.returns-then-not-compact_one-clause-kept
-returns-then-not-compact_one-clause-kept c = λ schema. subst (IsKept schema c.args.unstored.now) (sym (c.compact_one.ensures.same c.if-not-compact_one.true)) (c.loop-left.invariant.0 schema)
+returns-then-not-compact_one-clause-kept c = λ schema. subst (KeepsUnstored schema c.args.unstored.now) (sym (c.compact_one.ensures.same c.if-not-compact_one.true)) (c.loop-left.invariant.0 schema)
 
 pub returns-then-not-compact_one-clause-emptied : goal.returns-then-not-compact_one-clause-emptied
 returns-then-not-compact_one-clause-emptied c =

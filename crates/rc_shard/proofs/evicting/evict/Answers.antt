@@ -2,7 +2,7 @@
 use Rattle.std.proofs.Common.{[], ◌∷◌, sym, ap, ◌∙◌, subst, arith}
 use Rattle.rc_lookup.specs.Unstored.{Unstored}
 use Rattle.rc_shard.proofs.Evicted.{IsUnderway, all-went, none-left, nothing-moved, one-further}
-use Rattle.rc_shard.specs.calls.Storing.{IsKept}
+use Rattle.rc_shard.specs.calls.Storing.{KeepsUnstored}
 use Rattle.rc_shard.proofs.Standing.{kept-itself, kept-then}
 use Rattle.rc_shard.proofs.evicting.evict.Goals as goal
 
@@ -25,7 +25,7 @@ loop-left-preserved c =
     )
 
 pub returns-then-not-evict_one-clause-kept : goal.returns-then-not-evict_one-clause-kept
-returns-then-not-evict_one-clause-kept c = λ schema. subst (IsKept schema c.args.unstored.now) (sym (c.evict_one.ensures.none c.if-not-evict_one.true).1) (c.loop-left.invariant.0 schema)
+returns-then-not-evict_one-clause-kept c = λ schema. subst (KeepsUnstored schema c.args.unstored.now) (sym (c.evict_one.ensures.none c.if-not-evict_one.true).1) (c.loop-left.invariant.0 schema)
 
 pub returns-then-not-evict_one-clause-evicted : goal.returns-then-not-evict_one-clause-evicted
 returns-then-not-evict_one-clause-evicted c =

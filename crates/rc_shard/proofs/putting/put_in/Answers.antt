@@ -3,7 +3,7 @@ use Rattle.std.proofs.Common.{◌≡◌, cond, ◌++◌, ◌∷◌, [], ap, ◌�
 use Rattle.rc_memory.specs.declared.counts.Counts.{Counts}
 use Rattle.rc_lookup.specs.Memtables.{HaveWrites}
 use Rattle.rc_lookup.specs.Footprint.{LosesBeforeWrite}
-use Rattle.rc_shard.specs.calls.Storing.{IsKept}
+use Rattle.rc_shard.specs.calls.Storing.{KeepsUnstored}
 use Rattle.rc_shard.proofs.Losing.{write-crowds}
 use Rattle.rc_shard.proofs.Caching.{keeps-then}
 use Rattle.rc_shard.proofs.Numbered.{either}
@@ -54,7 +54,7 @@ returns-in_err-done-clause-err c =
     let u = c.args.unstored.now in
     let v = c.put.new.self in
     let r = c.in_err-done.ensures.refused in
-    let kept : IsKept c.args.schema.now u v = record {
+    let kept : KeepsUnstored c.args.schema.now u v = record {
       stands = λ writes later h. c.in_err-done.ensures.err writes later h;
       seen = c.put.ensures.seen;
       room = c.what_a_call_leaves_of_the_room.ensures.refused 131072 u v r;

@@ -1,7 +1,7 @@
 -- A line that means nothing, a refused line, or a schema line.
 use Rattle.std.proofs.Common.{◌∙◌, sym, subst, None, Err}
 use Rattle.rc_lines.specs.Grammar.{parse, ReadsLine}
-use Rattle.rc_machine.specs.Built.{served}
+use Rattle.rc_machine.specs.Built.{served_meaning}
 use Rattle.rc_shell.proofs.Staged.{free_closes, none_answered, refused_answered, schema_line}
 use Rattle.rc_shell.proofs.late.begin.Goals as goal
 
@@ -15,7 +15,7 @@ returns-in-None-clause-closes g c = free_closes g.M.Machine.stands g.M.Machine.f
 pub returns-in_ok-print_refusal-in-Err-Refused-clause-answered : goal.returns-in_ok-print_refusal-in-Err-Refused-clause-answered
 returns-in_ok-print_refusal-in-Err-Refused-clause-answered g c = λ old s.
     refused_answered g.M.Machine.stands g.M.Machine.figures c.args.segments c.args.place.now (g.W.Store.files c.args.store.now, g.W.Store.faults c.args.store.now, g.W.Store.asks c.args.store.now) old c.args.line.now c.in-Err-Refused.early c.args.text.now.items c.print_refusal.new.out.items
-    c.requires.free s (subst (λ e. ReadsLine (Err e) (served (parse None c.args.line.now))) c.in-Err-Refused.field-0-is c.in-Err-Refused.ensures.reads) c.in_ok-print_refusal-in-Err-Refused.ensures.ok
+    c.requires.free s (subst (λ e. ReadsLine (Err e) (served_meaning (parse None c.args.line.now))) c.in-Err-Refused.field-0-is c.in-Err-Refused.ensures.reads) c.in_ok-print_refusal-in-Err-Refused.ensures.ok
 
 pub returns-in_ok-print_refusal-in-Err-Refused-clause-closes : goal.returns-in_ok-print_refusal-in-Err-Refused-clause-closes
 returns-in_ok-print_refusal-in-Err-Refused-clause-closes g c = free_closes g.M.Machine.stands g.M.Machine.figures c.args.place.now c.requires.free

@@ -1,13 +1,13 @@
 -- Each part holds nothing, so it is its stream, and no seek is due.
 use Rattle.std.proofs.Common.{refl, sym, subst}
 use Rattle.rc_stream.specs.Both.{AheadOfBoth, BothFresh, BothReady, IsDueAhead, MightBoth, SoughtBoth, SpotsOfBoth}
-use Rattle.rc_stream.specs.Merging.{merged}
+use Rattle.rc_stream.specs.Merging.{merged_stream}
 use Rattle.rc_stream.proofs.Showing.{alone}
 use Rattle.rc_stream.proofs.laws.a_new_merge_stands_for_both.Goals as goal
 
 pub returns-clause-seen : goal.returns-clause-seen
 returns-clause-seen g c a b m h w s t is p q d e o k =
-    subst (λ n. SoughtBoth g.A.Frags.seen g.B.Frags.seen n h w (merged s t)) (sym is)
+    subst (λ n. SoughtBoth g.A.Frags.seen g.B.Frags.seen n h w (merged_stream s t)) (sym is)
     (record { ours = s; theirs = t; first = alone (g.A.Frags.seen a h w) s p d o; second = alone (g.B.Frags.seen b h w) t q e k; joins = refl })
 
 pub returns-clause-ready : goal.returns-clause-ready

@@ -1,8 +1,8 @@
 -- Each went on, or one that was refused is as it was.
 use Rattle.std.proofs.Common.{◌∙◌, Ok, Err, Some, true, false, refl}
-use Rattle.rc_stream.specs.Did.{Call.OfSeek, OneCall, answered, merge_state}
+use Rattle.rc_stream.specs.Did.{Call.OfSeek, OneCall, has_answer, merge_state}
 use Rattle.rc_stream.specs.Showing.{EitherSpot}
-use Rattle.rc_stream.specs.Stream.{sought}
+use Rattle.rc_stream.specs.Stream.{sought_stream}
 use Rattle.rc_stream.proofs.Blaming.{blames-after, blames-ours, blames-theirs}
 use Rattle.rc_stream.proofs.Chains.{chain-after, once-called, once-called-theirs}
 use Rattle.rc_stream.proofs.Going.{moved-moved, once-keeps, once-ours, once-theirs}
@@ -28,7 +28,7 @@ returns-in-Ok-clause-ok g c =
     let g' = c.go_on-in-Ok.new.home in
     let v = c.go_on-in-Ok.new.store in
     sought-ok (g.A.Frags.seen m.ours.stream h w) (g.B.Frags.seen m.theirs.stream h w) (g.A.Frags.seen p.stream g' v) (g.B.Frags.seen q.stream g' v) x m.ours.held m.theirs.held p.held q.held c.go_on-in-Ok.result
-    (λ t r. once-holds g.B.Frags.moves g.A.Frags.seen p k u g' v c.requires.keeps.ours_seen c.go_on-in-Ok.ensures.moves (sought x t) (c.in-Ok.ensures.holds t r))
+    (λ t r. once-holds g.B.Frags.moves g.A.Frags.seen p k u g' v c.requires.keeps.ours_seen c.go_on-in-Ok.ensures.moves (sought_stream x t) (c.in-Ok.ensures.holds t r))
     (λ t r. c.go_on-in-Ok.ensures.holds t (once-holds g.A.Frags.moves g.B.Frags.seen m.theirs h w k u c.requires.keeps.theirs_seen c.go_on.ensures.moves t r))
 
 pub returns-in-Ok-clause-again : goal.returns-in-Ok-clause-again
@@ -44,7 +44,7 @@ returns-in-Ok-clause-again g c = λ s.
     let g' = c.go_on-in-Ok.new.home in
     let v = c.go_on-in-Ok.new.store in
     sought-either (g.A.Frags.seen m.ours.stream h w) (g.B.Frags.seen m.theirs.stream h w) (g.A.Frags.seen p.stream g' v) (g.B.Frags.seen q.stream g' v) x m.ours.held m.theirs.held p.held q.held (Ok tt) c.go_on-in-Ok.result s
-    (λ t r. once-holds g.B.Frags.moves g.A.Frags.seen p k u g' v c.requires.keeps.ours_seen c.go_on-in-Ok.ensures.moves (sought x t) (c.in-Ok.ensures.holds t r))
+    (λ t r. once-holds g.B.Frags.moves g.A.Frags.seen p k u g' v c.requires.keeps.ours_seen c.go_on-in-Ok.ensures.moves (sought_stream x t) (c.in-Ok.ensures.holds t r))
     (λ t r. c.go_on-in-Ok.ensures.holds t (once-holds g.A.Frags.moves g.B.Frags.seen m.theirs h w k u c.requires.keeps.theirs_seen c.go_on.ensures.moves t r))
 
 pub returns-in-Err-clause-again : goal.returns-in-Err-clause-again
@@ -101,7 +101,7 @@ returns-in-Ok-clause-did g c = λ y.
     let q = c.go_on-in-Ok.new.part in
     let g' = c.go_on-in-Ok.new.home in
     let v = c.go_on-in-Ok.new.store in
-    let ok = answered c.go_on-in-Ok.result in
+    let ok = has_answer c.go_on-in-Ok.result in
     chain-after (OneCall g.A.Frags.did g.B.Frags.did (Some x) y) ok (merge_state m h w) (p.stream, m.theirs.stream, k, u) (p.stream, q.stream, g', v)
     (once-called g.A.Frags.did g.B.Frags.did (Some x) y (OfSeek x) refl true m.ours.stream m.theirs.stream h w p.stream k u c.in-Ok.ensures.did)
     (once-called-theirs g.A.Frags.did g.B.Frags.did (Some x) y (OfSeek x) refl ok p.stream m.theirs.stream k u q.stream g' v c.go_on-in-Ok.ensures.did)

@@ -1,6 +1,6 @@
 -- Both were called, one after the other.
 use Rattle.std.proofs.Common.{◌∙◌, true, false, refl, None, inl}
-use Rattle.rc_stream.specs.Did.{Call.OfNext, OneCall, answered, merge_state}
+use Rattle.rc_stream.specs.Did.{Call.OfNext, OneCall, has_answer, merge_state}
 use Rattle.rc_stream.specs.Moving.{Holds}
 use Rattle.rc_stream.specs.Showing.{EitherSpot}
 use Rattle.rc_stream.specs.laws.Ordered.{passes-itself}
@@ -114,7 +114,7 @@ returns-in-Ok-bound-clause-did g c = λ y covers.
     let q = c.look_ahead-in-Ok-bound.new.part in
     let g' = c.look_ahead-in-Ok-bound.new.home in
     let v = c.look_ahead-in-Ok-bound.new.store in
-    let ok = answered c.look_ahead-in-Ok-bound.result in
+    let ok = has_answer c.look_ahead-in-Ok-bound.result in
     let on = covers-theirs (g.A.Frags.seen m.ours.stream h w) (g.A.Frags.seen p.stream k u) (g.B.Frags.seen m.theirs.stream h w) x m.ours.held p.held m.theirs.held (g.B.Frags.seen m.theirs.stream k u) c.in-Ok-bound.near y c.in-Ok-bound.ensures c.in-Ok.ensures.holds c.in-Ok.ensures.known (λ s r. once-keeps g.A.Frags.moves (λ z i j. g.B.Frags.seen z i j s) m.theirs.stream h w k u (λ z i j l n a b. c.requires.keeps.theirs_seen z s i j l n a b) c.look_ahead.ensures.moves r) covers in
     chain-after (OneCall g.A.Frags.did g.B.Frags.did None y) ok (merge_state m h w) (p.stream, m.theirs.stream, k, u) (p.stream, q.stream, g', v)
     (once-called g.A.Frags.did g.B.Frags.did None y (OfNext x) tt true m.ours.stream m.theirs.stream h w p.stream k u (c.in-Ok.ensures.did x (λ _. inl (passes-itself x))))

@@ -2,7 +2,7 @@
 use Rattle.std.specs.Prelude.{IfOk}
 use Rattle.std.proofs.Common.{sym, ap, ◌∙◌, subst, Ok, None, true, false, arith}
 use Rattle.rc_stream.specs.Both.{HoldBoth, SpotsOfBoth}
-use Rattle.rc_stream.specs.Did.{InTurn, OneCall, answered, merge_state}
+use Rattle.rc_stream.specs.Did.{InTurn, OneCall, has_answer, merge_state}
 use Rattle.rc_stream.specs.calls.Holding.{IsStepUpto}
 use Rattle.rc_stream.specs.calls.Moving.{RoundReaches, StepLeaves}
 use Rattle.rc_stream.proofs.Blaming.{blames-later}
@@ -93,7 +93,7 @@ loop-rounds-preserved g c =
     let passed = c.in-Ok-Passed.is ∙ ap Ok c.in-Ok-Passed.field-0-is in
     record {
       says = λ s b. subst (λ r. StepLeaves r c.args.upto.now s (HoldBoth g.A.Frags.seen g.B.Frags.seen c.round.new.merge c.round.new.home c.round.new.store)) passed (c.round.ensures.says s (c.loop-rounds.invariant.says s b));
-      did = λ y covers. many-many (OneCall g.A.Frags.did g.B.Frags.did None y) (merge_state c.args.merge.now c.args.home.now c.args.store.now) (merge_state c.loop-rounds.merge c.loop-rounds.home c.loop-rounds.store) (merge_state c.round.new.merge c.round.new.home c.round.new.store) (c.loop-rounds.invariant.did y covers) (subst (λ r. InTurn (OneCall g.A.Frags.did g.B.Frags.did None y) (answered r) (merge_state c.loop-rounds.merge c.loop-rounds.home c.loop-rounds.store) (merge_state c.round.new.merge c.round.new.home c.round.new.store)) passed (c.round.ensures.did y (covers-on (HoldBoth g.A.Frags.seen g.B.Frags.seen c.args.merge.now c.args.home.now c.args.store.now) (HoldBoth g.A.Frags.seen g.B.Frags.seen c.loop-rounds.merge c.loop-rounds.home c.loop-rounds.store) c.args.upto.now y c.loop-rounds.invariant.says covers)));
+      did = λ y covers. many-many (OneCall g.A.Frags.did g.B.Frags.did None y) (merge_state c.args.merge.now c.args.home.now c.args.store.now) (merge_state c.loop-rounds.merge c.loop-rounds.home c.loop-rounds.store) (merge_state c.round.new.merge c.round.new.home c.round.new.store) (c.loop-rounds.invariant.did y covers) (subst (λ r. InTurn (OneCall g.A.Frags.did g.B.Frags.did None y) (has_answer r) (merge_state c.loop-rounds.merge c.loop-rounds.home c.loop-rounds.store) (merge_state c.round.new.merge c.round.new.home c.round.new.store)) passed (c.round.ensures.did y (covers-on (HoldBoth g.A.Frags.seen g.B.Frags.seen c.args.merge.now c.args.home.now c.args.store.now) (HoldBoth g.A.Frags.seen g.B.Frags.seen c.loop-rounds.merge c.loop-rounds.home c.loop-rounds.store) c.args.upto.now y c.loop-rounds.invariant.says covers)));
       ahead = λ x may. c.round.ensures.ahead x (subst (λ r. RoundReaches r x) (sym passed) tt) (c.loop-rounds.invariant.ahead x may);
       ready = c.round.ensures.ready;
       due = c.round.ensures.due ∙ c.loop-rounds.invariant.due;

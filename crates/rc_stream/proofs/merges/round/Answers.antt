@@ -3,7 +3,7 @@ use Rattle.std.proofs.Common.{sym, subst, None}
 use Rattle.rc_stream.specs.declared.holding.Held.{Held}
 use Rattle.rc_stream.specs.Both.{SpotsOfBoth}
 use Rattle.rc_stream.specs.Did.{OneCall, merge_state}
-use Rattle.rc_stream.specs.Holding.{held}
+use Rattle.rc_stream.specs.Holding.{held_fragments}
 use Rattle.rc_stream.specs.calls.Holding.{turn_of}
 use Rattle.rc_stream.specs.Moving.{Holds, IsPutBack}
 use Rattle.rc_stream.proofs.Blaming.{blames-err, blames-memory, blames-ok}
@@ -40,8 +40,8 @@ returns-in-Ok-make_step-clause-ahead g c = λ x r may.
     let n = c.look_at_both.new.merge in
     let step = c.in-Ok-make_step.step in
     let now = c.look_at_both.ensures.ahead x may in (
-      λ y on from. now.0 y on (does-ours (turn_of c.args.upto.now (held n.ours.held) (held n.theirs.held)) step n.ours.held n.theirs.held c.make_step.new.ours c.make_step.new.theirs c.in-Ok-make_step.ensures.does y (reaches-on step x y on r) from),
-      λ y on from. now.1 y on (does-theirs (turn_of c.args.upto.now (held n.ours.held) (held n.theirs.held)) step n.ours.held n.theirs.held c.make_step.new.ours c.make_step.new.theirs c.in-Ok-make_step.ensures.does y (reaches-on step x y on r) from),
+      λ y on from. now.0 y on (does-ours (turn_of c.args.upto.now (held_fragments n.ours.held) (held_fragments n.theirs.held)) step n.ours.held n.theirs.held c.make_step.new.ours c.make_step.new.theirs c.in-Ok-make_step.ensures.does y (reaches-on step x y on r) from),
+      λ y on from. now.1 y on (does-theirs (turn_of c.args.upto.now (held_fragments n.ours.held) (held_fragments n.theirs.held)) step n.ours.held n.theirs.held c.make_step.new.ours c.make_step.new.theirs c.in-Ok-make_step.ensures.does y (reaches-on step x y on r) from),
     )
 
 pub returns-in-Err-make_step-clause-ahead : goal.returns-in-Err-make_step-clause-ahead

@@ -2,7 +2,7 @@ use Rattle.std.proofs.Common.{◌+◌, ◌≤◌, None, arith, ap, sym, ◌∙�
 use Rattle.lsa_pool.specs.Room.{live_sum, spare_of}
 use Rattle.lsa_region.specs.declared.end.End.TheVariants.{Obj}
 use Rattle.rc_rowcode.specs.Objects.{dummy_size}
-use Rattle.rc_core.specs.Change.{split}
+use Rattle.rc_core.specs.Change.{gap_split}
 use Rattle.rc_core.specs.Continuity.{with_entries}
 use Rattle.rc_object.specs.Objects.{entry_length}
 use Rattle.rc_version.specs.Versions.{IsVersionOf, MayChange, version_bytes}
@@ -21,7 +21,7 @@ split-last-requires g c = let k = c.split-first.ensures.split.entries c.requires
         spare = left-spare (spare_of g.row.S c.args.region.now.usages) (spare_of g.row.S c.split-first.new.region.usages) (dummy_size c.args.from.now) (dummy_size c.args.to.now) c.requires.spare c.split-first.ensures.split.spare;
         inside = subst (λ n. entry_length c.args.to.now None ≤ n) (sym c.split-first.ensures.size) c.requires.to_room.inside;
       },
-      (k.0, with_entries (split c.args.from.now c.requires.version.1.entries) c.requires.version.1, k.2),
+      (k.0, with_entries (gap_split c.args.from.now c.requires.version.1.entries) c.requires.version.1, k.2),
     ),
   ),
 )

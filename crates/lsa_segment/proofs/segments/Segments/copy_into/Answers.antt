@@ -1,7 +1,7 @@
 use Rattle.std.proofs.Common.{subst, length-take, length-drop, ◌≡◌, ◌+◌, ◌*◌, [], length, get_or, set, take, drop, sym, ap, ◌∙◌, arith}
 use Rattle.circular_buffer.specs.Places.{somes}
 use Rattle.lsa_segment.specs.Bytes.{part}
-use Rattle.lsa_segment.specs.Places.{written, used_bytes, AreLaid}
+use Rattle.lsa_segment.specs.Places.{written_places, used_bytes, AreLaid}
 use Rattle.lsa_segment.proofs.Written.{somes-map}
 use Rattle.lsa_segment.proofs.Held.{segment, known-used, lent, appended, counted, ends_apart}
 use Rattle.lsa_segment.proofs.segments.Segments.copy_into.Goals as goal
@@ -49,8 +49,8 @@ invariant_of-self g c =
     let bytes : somes (take c.args.len (drop (c.args.from * g.row.S + c.args.offset) places)) ≡ new = ap somes l.1 ∙ somes-map new in
     let long : length new ≡ c.args.len = omega (arith, length-take c.args.len (drop c.args.offset from), length-drop c.args.offset from, c.requires.inside) in
     let r = appended g.row.S used places c.args.self.now c.args.to new c.self.invariant c.self.view_is c.requires.to (omega (arith, long, c.requires.fits)) in
-    let is : c.copy.new.self ≡ written places (c.args.to * g.row.S + get_or used c.args.to 0) new =
-    c.copy.ensures ∙ ap (λ k. written places (c.args.to * g.row.S + k) (somes (take c.args.len (drop (c.args.from * g.row.S + c.args.offset) places)))) u.0 ∙ ap (written places (c.args.to * g.row.S + get_or used c.args.to 0)) bytes in
+    let is : c.copy.new.self ≡ written_places places (c.args.to * g.row.S + get_or used c.args.to 0) new =
+    c.copy.ensures ∙ ap (λ k. written_places places (c.args.to * g.row.S + k) (somes (take c.args.len (drop (c.args.from * g.row.S + c.args.offset) places)))) u.0 ∙ ap (written_places places (c.args.to * g.row.S + get_or used c.args.to 0)) bytes in
     let counts : set used c.args.to (c.index-end.result.now + c.args.len) ≡ set used c.args.to (get_or used c.args.to 0 + length new) =
     ap (λ k. set used c.args.to (k + c.args.len)) u.0 ∙ ap (λ k. set used c.args.to (get_or used c.args.to 0 + k)) (sym long) in
     subst (λ l. AreLaid g.row.S l c.copy.new.self) (sym counts) (subst (AreLaid g.row.S (set used c.args.to (get_or used c.args.to 0 + length new))) (sym is) r.0)
@@ -66,8 +66,8 @@ returns-clause-after g c =
     let bytes : somes (take c.args.len (drop (c.args.from * g.row.S + c.args.offset) places)) ≡ new = ap somes l.1 ∙ somes-map new in
     let long : length new ≡ c.args.len = omega (arith, length-take c.args.len (drop c.args.offset from), length-drop c.args.offset from, c.requires.inside) in
     let r = appended g.row.S used places c.args.self.now c.args.to new c.self.invariant c.self.view_is c.requires.to (omega (arith, long, c.requires.fits)) in
-    let is : c.copy.new.self ≡ written places (c.args.to * g.row.S + get_or used c.args.to 0) new =
-    c.copy.ensures ∙ ap (λ k. written places (c.args.to * g.row.S + k) (somes (take c.args.len (drop (c.args.from * g.row.S + c.args.offset) places)))) u.0 ∙ ap (written places (c.args.to * g.row.S + get_or used c.args.to 0)) bytes in
+    let is : c.copy.new.self ≡ written_places places (c.args.to * g.row.S + get_or used c.args.to 0) new =
+    c.copy.ensures ∙ ap (λ k. written_places places (c.args.to * g.row.S + k) (somes (take c.args.len (drop (c.args.from * g.row.S + c.args.offset) places)))) u.0 ∙ ap (written_places places (c.args.to * g.row.S + get_or used c.args.to 0)) bytes in
     let counts : set used c.args.to (c.index-end.result.now + c.args.len) ≡ set used c.args.to (get_or used c.args.to 0 + length new) =
     ap (λ k. set used c.args.to (k + c.args.len)) u.0 ∙ ap (λ k. set used c.args.to (get_or used c.args.to 0 + k)) (sym long) in
     ap (λ l. used_bytes g.row.S l c.copy.new.self) counts ∙ ap (used_bytes g.row.S (set used c.args.to (get_or used c.args.to 0 + length new))) is ∙ r.1

@@ -1,5 +1,5 @@
 use Rattle.std.proofs.Common.{subst, ◌≡◌, ◌+◌, ◌*◌, length, get_or, set, sym, ap, ◌∙◌, arith}
-use Rattle.lsa_segment.specs.Places.{written, used_bytes, AreLaid}
+use Rattle.lsa_segment.specs.Places.{written_places, used_bytes, AreLaid}
 use Rattle.lsa_segment.proofs.Held.{segment, known-used, appended, counted}
 use Rattle.lsa_segment.proofs.segments.Segments.push.Goals as goal
 
@@ -26,7 +26,7 @@ invariant_of-self g c =
     let u = counted g.row.S c.self.inside.used.items c.self.inside.block c.args.self.now c.args.n c.self.inside.used.len c.index-offset.result.now c.self.invariant c.self.view_is c.requires.segment c.self.inside.used.ok.0 c.index-offset.ensures in
     let places = c.self.inside.block in let used = c.self.inside.used.items in let new = c.args.bytes.now in
     let r = appended g.row.S used places c.args.self.now c.args.n new c.self.invariant c.self.view_is c.requires.segment c.requires.fits in
-    let is : c.write.new.self ≡ written places (c.args.n * g.row.S + get_or used c.args.n 0) new = c.write.ensures ∙ ap (λ k. written places (c.args.n * g.row.S + k) new) u.0 in
+    let is : c.write.new.self ≡ written_places places (c.args.n * g.row.S + get_or used c.args.n 0) new = c.write.ensures ∙ ap (λ k. written_places places (c.args.n * g.row.S + k) new) u.0 in
     let counts : set used c.args.n (c.index-offset.result.now + length new) ≡ set used c.args.n (get_or used c.args.n 0 + length new) = ap (λ k. set used c.args.n (k + length new)) u.0 in
     subst (λ l. AreLaid g.row.S l c.write.new.self) (sym counts) (subst (AreLaid g.row.S (set used c.args.n (get_or used c.args.n 0 + length new))) (sym is) r.0)
 
@@ -38,6 +38,6 @@ returns-clause-after g c =
     let u = counted g.row.S c.self.inside.used.items c.self.inside.block c.args.self.now c.args.n c.self.inside.used.len c.index-offset.result.now c.self.invariant c.self.view_is c.requires.segment c.self.inside.used.ok.0 c.index-offset.ensures in
     let places = c.self.inside.block in let used = c.self.inside.used.items in let new = c.args.bytes.now in
     let r = appended g.row.S used places c.args.self.now c.args.n new c.self.invariant c.self.view_is c.requires.segment c.requires.fits in
-    let is : c.write.new.self ≡ written places (c.args.n * g.row.S + get_or used c.args.n 0) new = c.write.ensures ∙ ap (λ k. written places (c.args.n * g.row.S + k) new) u.0 in
+    let is : c.write.new.self ≡ written_places places (c.args.n * g.row.S + get_or used c.args.n 0) new = c.write.ensures ∙ ap (λ k. written_places places (c.args.n * g.row.S + k) new) u.0 in
     let counts : set used c.args.n (c.index-offset.result.now + length new) ≡ set used c.args.n (get_or used c.args.n 0 + length new) = ap (λ k. set used c.args.n (k + length new)) u.0 in
     ap (λ l. used_bytes g.row.S l c.write.new.self) counts ∙ ap (used_bytes g.row.S (set used c.args.n (get_or used c.args.n 0 + length new))) is ∙ r.1

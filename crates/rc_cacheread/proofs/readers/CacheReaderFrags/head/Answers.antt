@@ -1,5 +1,5 @@
 -- The head, and what its calls did.
-use Rattle.rc_stream.specs.Did.{OfHead, answered}
+use Rattle.rc_stream.specs.Did.{OfHead, has_answer}
 use Rattle.rc_cacheread.proofs.readers.CacheReaderFrags.head.Goals as goal
 
 pub returns-clause-head : goal.returns-clause-head
@@ -27,7 +27,7 @@ pub returns-clause-moves : goal.returns-clause-moves
 returns-clause-moves g c =
     let r = c.args.self.now in
     let n = c.whole_head.new.reader in
-    record { s = (r.known, r.below, r.filler); t = (n.known, n.below, n.filler); c = OfHead; ok = answered c.whole_head.result; calls = c.whole_head.ensures.did.calls }
+    record { s = (r.known, r.below, r.filler); t = (n.known, n.below, n.filler); c = OfHead; ok = has_answer c.whole_head.result; calls = c.whole_head.ensures.did.calls }
 
 pub returns-clause-did : goal.returns-clause-did
 returns-clause-did g c = c.whole_head.ensures.did

@@ -1,6 +1,6 @@
 -- The next, and what its calls did.
 use Rattle.std.proofs.Common.{inl}
-use Rattle.rc_stream.specs.Did.{OfNext, answered}
+use Rattle.rc_stream.specs.Did.{OfNext, has_answer}
 use Rattle.rc_cacheread.proofs.Orders.{reach-itself}
 use Rattle.rc_cacheread.proofs.readers.CacheReaderFrags.next.Goals as goal
 
@@ -23,7 +23,7 @@ pub returns-clause-moves : goal.returns-clause-moves
 returns-clause-moves g c =
     let r = c.args.self.now in
     let n = c.next_fragment.new.reader in
-    record { s = (r.known, r.below, r.filler); t = (n.known, n.below, n.filler); c = OfNext c.args.upto.now; ok = answered c.next_fragment.result; calls = (c.next_fragment.ensures.did c.args.upto.now (inl (reach-itself c.args.upto.now))).calls }
+    record { s = (r.known, r.below, r.filler); t = (n.known, n.below, n.filler); c = OfNext c.args.upto.now; ok = has_answer c.next_fragment.result; calls = (c.next_fragment.ensures.did c.args.upto.now (inl (reach-itself c.args.upto.now))).calls }
 
 pub returns-clause-did : goal.returns-clause-did
 returns-clause-did g c = c.next_fragment.ensures.did

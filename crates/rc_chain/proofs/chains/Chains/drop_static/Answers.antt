@@ -3,7 +3,7 @@ use Rattle.lsa_pool.specs.Room.{spare_of}
 use Rattle.lsa_region.specs.Region.{View}
 use Rattle.rc_core.specs.Continuity.{without_statics}
 use Rattle.rc_memory.specs.Memory.{Memory}
-use Rattle.rc_memory.specs.Changes.{AtAlone, IsVersionChanged, IsWithout, member}
+use Rattle.rc_memory.specs.Changes.{AtAlone, IsVersionChanged, IsWithout, member_at}
 use Rattle.rc_memory.specs.laws.One.{kept-is}
 use Rattle.rc_chain.proofs.Changing.{held-version, undone-here}
 use Rattle.rc_chain.proofs.Reading.{memory-now}
@@ -35,7 +35,7 @@ returns-clause-dropped g c =
     let v = held-version g.row.S s.recency s.region s.registry s.counts c.args.self.now n c.args.id c.args.number c.requires c.version-v.result c.version-v.ensures in
     let it = undone-here g.row.S s.recency s.region s.registry s.counts c.args.self.now n c.args.id c.args.number c.requires c.drop_static.new.region (c.drop_static.ensures.changed s.registry s.counts c.args.self.now c.args.id c.args.number v.0 v.1 v.2) in
     let is = kept-is g.row.S s.recency c.drop_static.new.region s.registry s.counts c.self-1.given.0 it.0 it.1.held in
-    subst (IsVersionChanged c.args.id c.args.number without_statics (AtAlone (member c.args.id c.args.number None)) c.args.self.now) (sym is) it.2.0
+    subst (IsVersionChanged c.args.id c.args.number without_statics (AtAlone (member_at c.args.id c.args.number None)) c.args.self.now) (sym is) it.2.0
 
 pub returns-clause-recency : goal.returns-clause-recency
 returns-clause-recency g c =
@@ -43,7 +43,7 @@ returns-clause-recency g c =
     let v = held-version g.row.S s.recency s.region s.registry s.counts c.args.self.now n c.args.id c.args.number c.requires c.version-v.result c.version-v.ensures in
     let it = undone-here g.row.S s.recency s.region s.registry s.counts c.args.self.now n c.args.id c.args.number c.requires c.drop_static.new.region (c.drop_static.ensures.changed s.registry s.counts c.args.self.now c.args.id c.args.number v.0 v.1 v.2) in
     let is = kept-is g.row.S s.recency c.drop_static.new.region s.registry s.counts c.self-1.given.0 it.0 it.1.held in
-    subst (λ (m : Memory). IsWithout (member c.args.id c.args.number None) c.args.self.now.recency m.recency) (sym is) it.2.1
+    subst (λ (m : Memory). IsWithout (member_at c.args.id c.args.number None) c.args.self.now.recency m.recency) (sym is) it.2.1
 
 pub returns-clause-spare : goal.returns-clause-spare
 returns-clause-spare g c =

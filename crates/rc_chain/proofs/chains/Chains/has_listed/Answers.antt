@@ -2,7 +2,7 @@ use Rattle.std.proofs.Common.{◌≡◌, ◌<◌, false, Some, length, arith}
 use Rattle.rc_core.specs.declared.entries.ChainKind.TheVariants.{Cache}
 use Rattle.rc_core.specs.Version.{end_position}
 use Rattle.rc_memory.specs.Memory.{KeptChain, chain_at}
-use Rattle.rc_memory.specs.Changes.{member}
+use Rattle.rc_memory.specs.Changes.{member_at}
 use Rattle.rc_memory.specs.laws.At.{number-there}
 use Rattle.rc_chain.proofs.Bare.{some-chain}
 use Rattle.rc_chain.proofs.Dropping.{cached-has, more-listed, none-of-bare}
@@ -24,7 +24,7 @@ returns-then-has_more-clause-some g c =
 
 pub returns-clause-none : goal.returns-clause-none
 returns-clause-none g c =
-    λ f. none-of-bare c.args.self.now c.args.id c.args.number c.known.ensures.rule c.known.ensures.versions (c.has_more.ensures.bare c.if-has_more.false) (λ on. true-false c.is_listed.result ((c.is_listed.ensures (member c.args.id c.args.number (Some end_position)) c.end_of-end.ensures).1 on) f)
+    λ f. none-of-bare c.args.self.now c.args.id c.args.number c.known.ensures.rule c.known.ensures.versions (c.has_more.ensures.bare c.if-has_more.false) (λ on. true-false c.is_listed.result ((c.is_listed.ensures (member_at c.args.id c.args.number (Some end_position)) c.end_of-end.ensures).1 on) f)
 
 pub returns-clause-bare : goal.returns-clause-bare
 returns-clause-bare g c =
@@ -32,4 +32,4 @@ returns-clause-bare g c =
 
 pub returns-clause-some : goal.returns-clause-some
 returns-clause-some g c =
-    λ t. (Some end_position, (c.is_listed.ensures (member c.args.id c.args.number (Some end_position)) c.end_of-end.ensures).0 t)
+    λ t. (Some end_position, (c.is_listed.ensures (member_at c.args.id c.args.number (Some end_position)) c.end_of-end.ensures).0 t)

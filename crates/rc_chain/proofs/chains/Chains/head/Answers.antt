@@ -1,7 +1,7 @@
 use Rattle.std.proofs.Common.{◌≡◌, List, sym, subst, arith}
 use Rattle.std.specs.Prelude.{IfOk}
 use Rattle.rc_core.specs.declared.entries.ChainKind.{ChainKind}
-use Rattle.rc_core.specs.Chain.{content, flagged}
+use Rattle.rc_core.specs.Chain.{content, has_flag}
 use Rattle.rc_core.specs.Chains.{upto}
 use Rattle.rc_core.specs.Version.{Version}
 use Rattle.rc_core.specs.Continuity.{static_states}
@@ -36,7 +36,7 @@ returns-clause-known g c =
     λ k j e pinned.
     let s = c.self.inside in let n = memory-now g.row.S s.recency s.region s.registry s.counts s.memory c.args.self.now c.self.view_is c.self.invariant.0 c.self.invariant.1 in
     let r = read-stands g.row.S s.recency s.region s.registry s.counts c.args.self.now n c.args.s.now.chain c.args.s.now.pin c.get-used.result.now c.get-used.ensures c.pinned_at-number.result (λ k e. c.pinned_at-number.ensures k e) c.requires in let w = r.2 k j e pinned in
-    subst (λ (q : ChainKind). IfOk c.head.result (λ h. h.known ≡ flagged q (static_states (upto k.chain.versions j)))) (sym w.1) (subst (λ (vs : List Version). IfOk c.head.result (λ h. h.known ≡ flagged c.get-used.result.now.kind (static_states vs))) w.0 (c.head.ensures.known r.0 r.1))
+    subst (λ (q : ChainKind). IfOk c.head.result (λ h. h.known ≡ has_flag q (static_states (upto k.chain.versions j)))) (sym w.1) (subst (λ (vs : List Version). IfOk c.head.result (λ h. h.known ≡ has_flag c.get-used.result.now.kind (static_states vs))) w.0 (c.head.ensures.known r.0 r.1))
 
 pub returns-clause-row : goal.returns-clause-row
 returns-clause-row g c =

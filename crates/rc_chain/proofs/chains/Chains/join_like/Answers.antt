@@ -7,7 +7,7 @@ use Rattle.rc_core.specs.Steps.{join_statics, row_joined}
 use Rattle.rc_core.specs.Version.{Version}
 use Rattle.rc_version.specs.Versions.{joined_bytes}
 use Rattle.rc_memory.specs.Memory.{KeptChain, Memory, IsMemberObject}
-use Rattle.rc_memory.specs.Changes.{AtAlone, IsRenewed, IsVersionChanged, OfVersion, member}
+use Rattle.rc_memory.specs.Changes.{AtAlone, IsRenewed, IsVersionChanged, OfVersion, member_at}
 use Rattle.rc_memory.specs.laws.One.{kept-is}
 use Rattle.rc_chain.proofs.Changing.{held-version, of-version, static-row, like-either, like-entry, like-statics, room-like-joined, entry-here, entry-row}
 use Rattle.rc_chain.proofs.Reading.{memory-now, version-has}
@@ -44,9 +44,9 @@ returns-clause-entry g c =
     let v = held-version g.row.S s.recency s.region s.registry s.counts c.args.self.now n c.args.id c.args.number c.requires.version c.version-v.result c.version-v.ensures in
     let it = like-entry g.row.S s.recency s.region s.registry s.counts c.args.self.now n c.args.e w a c.args.id c.args.number c.requires.version v.0 v.1 v.2.chain v.2.number (λ x e. c.requires.entry w x a e) (λ row e said. c.requires.statics w row a e said) c.join_like.new.region c.kind-kind.result (c.kind-kind.ensures v.0 v.2.chain) c.join_like.result (λ y row holds is off. c.join_like.ensures.entry s.registry s.counts c.args.self.now c.args.id c.args.number v.0 v.1 y row v.2 holds is off) (λ row holds off. c.join_like.ensures.statics s.registry s.counts c.args.self.now c.args.id c.args.number v.0 v.1 row v.2 holds off) x e row said in
     let is = kept-is g.row.S s.recency c.join_like.new.region s.registry s.counts c.self-1.given.0 it.0 it.1.held in (
-      subst (IsVersionChanged c.args.id c.args.number (row_joined x row) (AtAlone (member c.args.id c.args.number (Some x))) c.args.self.now) (sym is) it.2.0.changed,
-      subst (λ (m : Memory). OfVersion c.args.self.now c.args.id c.args.number (λ (k : KeptChain) (v : Version). IsRenewed k.chain.kind (member c.args.id c.args.number (Some x)) c.args.self.now.recency m.recency)) (sym is) it.2.0.recency,
-      subst (λ (m : Memory). IsMemberObject m c.join_like.result (member c.args.id c.args.number (Some x))) (sym is) it.2.1,
+      subst (IsVersionChanged c.args.id c.args.number (row_joined x row) (AtAlone (member_at c.args.id c.args.number (Some x))) c.args.self.now) (sym is) it.2.0.changed,
+      subst (λ (m : Memory). OfVersion c.args.self.now c.args.id c.args.number (λ (k : KeptChain) (v : Version). IsRenewed k.chain.kind (member_at c.args.id c.args.number (Some x)) c.args.self.now.recency m.recency)) (sym is) it.2.0.recency,
+      subst (λ (m : Memory). IsMemberObject m c.join_like.result (member_at c.args.id c.args.number (Some x))) (sym is) it.2.1,
     )
 
 pub returns-clause-statics : goal.returns-clause-statics
@@ -55,9 +55,9 @@ returns-clause-statics g c =
     let v = held-version g.row.S s.recency s.region s.registry s.counts c.args.self.now n c.args.id c.args.number c.requires.version c.version-v.result c.version-v.ensures in
     let it = like-statics g.row.S s.recency s.region s.registry s.counts c.args.self.now n c.args.e w a c.args.id c.args.number c.requires.version v.0 v.1 v.2.chain v.2.number (λ x e. c.requires.entry w x a e) (λ row e said. c.requires.statics w row a e said) c.join_like.new.region c.kind-kind.result (c.kind-kind.ensures v.0 v.2.chain) c.join_like.result (λ y row holds is off. c.join_like.ensures.entry s.registry s.counts c.args.self.now c.args.id c.args.number v.0 v.1 y row v.2 holds is off) (λ row holds off. c.join_like.ensures.statics s.registry s.counts c.args.self.now c.args.id c.args.number v.0 v.1 row v.2 holds off) e row said in
     let is = kept-is g.row.S s.recency c.join_like.new.region s.registry s.counts c.self-1.given.0 it.0 it.1.held in (
-      subst (IsVersionChanged c.args.id c.args.number (join_statics row) (AtAlone (member c.args.id c.args.number None)) c.args.self.now) (sym is) it.2.0.changed,
-      subst (λ (m : Memory). OfVersion c.args.self.now c.args.id c.args.number (λ (k : KeptChain) (v : Version). IsRenewed k.chain.kind (member c.args.id c.args.number None) c.args.self.now.recency m.recency)) (sym is) it.2.0.recency,
-      subst (λ (m : Memory). IsMemberObject m c.join_like.result (member c.args.id c.args.number None)) (sym is) it.2.1,
+      subst (IsVersionChanged c.args.id c.args.number (join_statics row) (AtAlone (member_at c.args.id c.args.number None)) c.args.self.now) (sym is) it.2.0.changed,
+      subst (λ (m : Memory). OfVersion c.args.self.now c.args.id c.args.number (λ (k : KeptChain) (v : Version). IsRenewed k.chain.kind (member_at c.args.id c.args.number None) c.args.self.now.recency m.recency)) (sym is) it.2.0.recency,
+      subst (λ (m : Memory). IsMemberObject m c.join_like.result (member_at c.args.id c.args.number None)) (sym is) it.2.1,
     )
 
 pub returns-clause-entry_spare : goal.returns-clause-entry_spare

@@ -8,7 +8,7 @@ use Rattle.rc_core.specs.Steps.{row_joined}
 use Rattle.rc_core.specs.Version.{Version}
 use Rattle.rc_version.specs.Versions.{joined_bytes}
 use Rattle.rc_memory.specs.Memory.{KeptChain, Memory, IsMemberObject}
-use Rattle.rc_memory.specs.Changes.{AtAlone, IsRenewed, IsVersionChanged, OfVersion, member}
+use Rattle.rc_memory.specs.Changes.{AtAlone, IsRenewed, IsVersionChanged, OfVersion, member_at}
 use Rattle.rc_memory.specs.laws.One.{kept-is}
 use Rattle.rc_chain.proofs.Changing.{held-version, joined-here, of-version, off-memtable, room-joined, row-inner}
 use Rattle.rc_chain.proofs.Reading.{memory-now, version-has}
@@ -45,7 +45,7 @@ returns-clause-joined g c =
     let v = held-version g.row.S s.recency s.region s.registry s.counts c.args.self.now n c.args.id c.args.number c.requires.version c.version-v.result c.version-v.ensures in
     let it = joined-here g.row.S s.recency s.region s.registry s.counts c.args.self.now n c.args.id c.args.number c.requires.version c.join_row.new.region c.kind-kind.result v.0 v.1 v.2.chain v.2.number (c.kind-kind.ensures v.0 v.2.chain) (row_pos c.args.key.now) c.args.row.now c.join_row.result (row-inner c.args.key.now) c.requires.fits c.requires.last (c.join_row.ensures.changed s.registry s.counts c.args.self.now c.args.id c.args.number v.0 v.1 c.args.row.now v.2 (c.put_row.ensures.coded, c.bytes.ensures.value ∙ ap (λ (z : Space). z.bytes) c.put_row.ensures.value ∙ ap (λ (z : Space). z.bytes ++ row_code c.args.row.now) c.clear.ensures) (off-memtable g.row.S s.recency s.region s.registry s.counts c.args.self.now n c.args.id c.args.number c.requires.version c.kind-kind.result (Some (row_pos c.args.key.now)) v.0 v.2.chain (c.kind-kind.ensures v.0 v.2.chain))) in
     let is = kept-is g.row.S s.recency c.join_row.new.region s.registry s.counts c.self-1.given.0 it.0 it.1.held in
-    subst (IsVersionChanged c.args.id c.args.number (row_joined (row_pos c.args.key.now) c.args.row.now) (AtAlone (member c.args.id c.args.number (Some (row_pos c.args.key.now)))) c.args.self.now) (sym is) it.2.0.changed
+    subst (IsVersionChanged c.args.id c.args.number (row_joined (row_pos c.args.key.now) c.args.row.now) (AtAlone (member_at c.args.id c.args.number (Some (row_pos c.args.key.now)))) c.args.self.now) (sym is) it.2.0.changed
 
 pub returns-clause-recency : goal.returns-clause-recency
 returns-clause-recency g c =
@@ -53,7 +53,7 @@ returns-clause-recency g c =
     let v = held-version g.row.S s.recency s.region s.registry s.counts c.args.self.now n c.args.id c.args.number c.requires.version c.version-v.result c.version-v.ensures in
     let it = joined-here g.row.S s.recency s.region s.registry s.counts c.args.self.now n c.args.id c.args.number c.requires.version c.join_row.new.region c.kind-kind.result v.0 v.1 v.2.chain v.2.number (c.kind-kind.ensures v.0 v.2.chain) (row_pos c.args.key.now) c.args.row.now c.join_row.result (row-inner c.args.key.now) c.requires.fits c.requires.last (c.join_row.ensures.changed s.registry s.counts c.args.self.now c.args.id c.args.number v.0 v.1 c.args.row.now v.2 (c.put_row.ensures.coded, c.bytes.ensures.value ∙ ap (λ (z : Space). z.bytes) c.put_row.ensures.value ∙ ap (λ (z : Space). z.bytes ++ row_code c.args.row.now) c.clear.ensures) (off-memtable g.row.S s.recency s.region s.registry s.counts c.args.self.now n c.args.id c.args.number c.requires.version c.kind-kind.result (Some (row_pos c.args.key.now)) v.0 v.2.chain (c.kind-kind.ensures v.0 v.2.chain))) in
     let is = kept-is g.row.S s.recency c.join_row.new.region s.registry s.counts c.self-1.given.0 it.0 it.1.held in
-    subst (λ (m : Memory). OfVersion c.args.self.now c.args.id c.args.number (λ (k : KeptChain) (v : Version). IsRenewed k.chain.kind (member c.args.id c.args.number (Some (row_pos c.args.key.now))) c.args.self.now.recency m.recency)) (sym is) it.2.0.recency
+    subst (λ (m : Memory). OfVersion c.args.self.now c.args.id c.args.number (λ (k : KeptChain) (v : Version). IsRenewed k.chain.kind (member_at c.args.id c.args.number (Some (row_pos c.args.key.now))) c.args.self.now.recency m.recency)) (sym is) it.2.0.recency
 
 pub returns-clause-here : goal.returns-clause-here
 returns-clause-here g c =
@@ -61,7 +61,7 @@ returns-clause-here g c =
     let v = held-version g.row.S s.recency s.region s.registry s.counts c.args.self.now n c.args.id c.args.number c.requires.version c.version-v.result c.version-v.ensures in
     let it = joined-here g.row.S s.recency s.region s.registry s.counts c.args.self.now n c.args.id c.args.number c.requires.version c.join_row.new.region c.kind-kind.result v.0 v.1 v.2.chain v.2.number (c.kind-kind.ensures v.0 v.2.chain) (row_pos c.args.key.now) c.args.row.now c.join_row.result (row-inner c.args.key.now) c.requires.fits c.requires.last (c.join_row.ensures.changed s.registry s.counts c.args.self.now c.args.id c.args.number v.0 v.1 c.args.row.now v.2 (c.put_row.ensures.coded, c.bytes.ensures.value ∙ ap (λ (z : Space). z.bytes) c.put_row.ensures.value ∙ ap (λ (z : Space). z.bytes ++ row_code c.args.row.now) c.clear.ensures) (off-memtable g.row.S s.recency s.region s.registry s.counts c.args.self.now n c.args.id c.args.number c.requires.version c.kind-kind.result (Some (row_pos c.args.key.now)) v.0 v.2.chain (c.kind-kind.ensures v.0 v.2.chain))) in
     let is = kept-is g.row.S s.recency c.join_row.new.region s.registry s.counts c.self-1.given.0 it.0 it.1.held in
-    subst (λ (m : Memory). IsMemberObject m c.join_row.result (member c.args.id c.args.number (Some (row_pos c.args.key.now)))) (sym is) it.2.1
+    subst (λ (m : Memory). IsMemberObject m c.join_row.result (member_at c.args.id c.args.number (Some (row_pos c.args.key.now)))) (sym is) it.2.1
 
 pub returns-clause-spare : goal.returns-clause-spare
 returns-clause-spare g c =

@@ -9,7 +9,7 @@ use Rattle.rc_core.specs.Steps.{join_flagged_statics}
 use Rattle.rc_core.specs.Version.{Version}
 use Rattle.rc_object.specs.Objects.{IsRowCode}
 use Rattle.rc_memory.specs.Memory.{KeptChain, Memory}
-use Rattle.rc_memory.specs.Changes.{AtAlone, IsRenewed, IsVersionChanged, OfVersion, member}
+use Rattle.rc_memory.specs.Changes.{AtAlone, IsRenewed, IsVersionChanged, OfVersion, member_at}
 use Rattle.rc_memory.specs.laws.One.{kept-is}
 use Rattle.rc_chain.proofs.Changing.{flagged-here, held-version, of-version, off-memtable, static-fits, static-inside, version-refs}
 use Rattle.rc_chain.proofs.Reading.{memory-now, version-has}
@@ -63,7 +63,7 @@ returns-clause-joined g c =
     let all = c.put_joined.ensures.joined refs.0 v.1 c.args.row.now refs.1 (c.put_row.ensures.coded, c.bytes.ensures.value ∙ ap (λ (z : Space). z.bytes) c.put_row.ensures.value ∙ ap (λ (z : Space). z.bytes ++ row_code c.args.row.now) c.clear.ensures) in let code : IsRowCode c.bytes-2.result.now (change.joined_onto v.1.statics c.args.row.now) = (all.0, c.bytes-2.ensures.value ∙ all.1) in
     let it = flagged-here g.row.S s.recency s.region s.registry s.counts c.args.self.now n c.args.id c.args.number c.requires.version c.set_static.new.region c.kind-kind.result v.0 v.1 v.2.chain v.2.number (c.kind-kind.ensures v.0 v.2.chain) c.args.row.now c.args.flag c.requires.fits (c.set_static.ensures.changed s.registry s.counts c.args.self.now c.args.id c.args.number v.0 v.1 (change.joined_onto v.1.statics c.args.row.now) v.2 code (off-memtable g.row.S s.recency s.region s.registry s.counts c.args.self.now n c.args.id c.args.number c.requires.version c.kind-kind.result None v.0 v.2.chain (c.kind-kind.ensures v.0 v.2.chain))) in
     let is = kept-is g.row.S s.recency c.set_static.new.region s.registry s.counts c.self-1.given.0 it.0 it.1.held in
-    subst (IsVersionChanged c.args.id c.args.number (join_flagged_statics c.args.row.now c.args.flag) (AtAlone (member c.args.id c.args.number None)) c.args.self.now) (sym is) it.2.changed
+    subst (IsVersionChanged c.args.id c.args.number (join_flagged_statics c.args.row.now c.args.flag) (AtAlone (member_at c.args.id c.args.number None)) c.args.self.now) (sym is) it.2.changed
 
 pub returns-clause-recency : goal.returns-clause-recency
 returns-clause-recency g c =
@@ -73,7 +73,7 @@ returns-clause-recency g c =
     let all = c.put_joined.ensures.joined refs.0 v.1 c.args.row.now refs.1 (c.put_row.ensures.coded, c.bytes.ensures.value ∙ ap (λ (z : Space). z.bytes) c.put_row.ensures.value ∙ ap (λ (z : Space). z.bytes ++ row_code c.args.row.now) c.clear.ensures) in let code : IsRowCode c.bytes-2.result.now (change.joined_onto v.1.statics c.args.row.now) = (all.0, c.bytes-2.ensures.value ∙ all.1) in
     let it = flagged-here g.row.S s.recency s.region s.registry s.counts c.args.self.now n c.args.id c.args.number c.requires.version c.set_static.new.region c.kind-kind.result v.0 v.1 v.2.chain v.2.number (c.kind-kind.ensures v.0 v.2.chain) c.args.row.now c.args.flag c.requires.fits (c.set_static.ensures.changed s.registry s.counts c.args.self.now c.args.id c.args.number v.0 v.1 (change.joined_onto v.1.statics c.args.row.now) v.2 code (off-memtable g.row.S s.recency s.region s.registry s.counts c.args.self.now n c.args.id c.args.number c.requires.version c.kind-kind.result None v.0 v.2.chain (c.kind-kind.ensures v.0 v.2.chain))) in
     let is = kept-is g.row.S s.recency c.set_static.new.region s.registry s.counts c.self-1.given.0 it.0 it.1.held in
-    subst (λ (m : Memory). OfVersion c.args.self.now c.args.id c.args.number (λ (k : KeptChain) (v : Version). IsRenewed k.chain.kind (member c.args.id c.args.number None) c.args.self.now.recency m.recency)) (sym is) it.2.recency
+    subst (λ (m : Memory). OfVersion c.args.self.now c.args.id c.args.number (λ (k : KeptChain) (v : Version). IsRenewed k.chain.kind (member_at c.args.id c.args.number None) c.args.self.now.recency m.recency)) (sym is) it.2.recency
 
 pub returns-clause-spare : goal.returns-clause-spare
 returns-clause-spare g c =

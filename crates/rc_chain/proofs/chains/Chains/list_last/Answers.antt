@@ -2,7 +2,7 @@ use Rattle.std.proofs.Common.{[], Option, Some, None, refl, sym, subst, arith}
 use Rattle.std.specs.Prelude.{Contains}
 use Rattle.rc_position.specs.declared.positions.Pos.{Pos}
 use Rattle.rc_memory.specs.Memory.{Memory}
-use Rattle.rc_memory.specs.Changes.{Nowhere, member}
+use Rattle.rc_memory.specs.Changes.{Nowhere, member_at}
 use Rattle.rc_memory.specs.laws.Still.{still-itself}
 use Rattle.rc_memory.specs.Lists.{elem-here}
 use Rattle.rc_chain.proofs.Ended.{last-one, may-last, same-listed, same-objects, true-false, under-version}
@@ -14,11 +14,11 @@ last_inner-requires g c =
 
 pub is_listed-requires : goal.is_listed-requires
 is_listed-requires g c =
-    (omega arith, (member c.args.id c.args.number (Some c.in-Some.ensures.some.0), c.in-Some.ensures.some.1))
+    (omega arith, (member_at c.args.id c.args.number (Some c.in-Some.ensures.some.0), c.in-Some.ensures.some.1))
 
 pub list-requires : goal.list-requires
 list-requires g c =
-    let l = c.in-Some.ensures.some in let w = member c.args.id c.args.number (Some l.0) in
+    let l = c.in-Some.ensures.some in let w = member_at c.args.id c.args.number (Some l.0) in
     (omega arith, (w, l.1, (λ on. true-false c.is_listed.result ((c.is_listed.ensures w l.1).1 on) c.if-not-is_listed.true), may-last c.args.self.now c.known.ensures.sound c.known.ensures.versions c.args.id c.args.number c.requires (Some l.0) l.2))
 
 pub returns-in-None-clause-listed : goal.returns-in-None-clause-listed
@@ -39,23 +39,23 @@ returns-in-None-clause-still g c =
 
 pub returns-then-not-is_listed-clause-listed : goal.returns-then-not-is_listed-clause-listed
 returns-then-not-is_listed-clause-listed g c =
-    λ k v e at. let l = c.in-Some.ensures.some in let w = member c.args.id c.args.number (Some l.0) in
+    λ k v e at. let l = c.in-Some.ensures.some in let w = member_at c.args.id c.args.number (Some l.0) in
     (Some w, (Some l.0, l.2 k v e at, refl, (λ on. true-false c.is_listed.result ((c.is_listed.ensures w l.1).1 on) c.if-not-is_listed.true)), c.list.ensures.listed w l.1)
 
 pub returns-then-not-is_listed-clause-there : goal.returns-then-not-is_listed-clause-there
 returns-then-not-is_listed-clause-there g c =
-    λ k v e at p last. let l = c.in-Some.ensures.some in let w = member c.args.id c.args.number (Some l.0) in
-    subst (λ (z : Option Pos). Contains c.list.new.self.recency (member c.args.id c.args.number z)) (last-one v (Some l.0) p (l.2 k v e at) last) (subst (λ (m : Memory). Contains m.recency w) (sym (c.list.ensures.listed w l.1)) (elem-here c.args.self.now.recency [] w))
+    λ k v e at p last. let l = c.in-Some.ensures.some in let w = member_at c.args.id c.args.number (Some l.0) in
+    subst (λ (z : Option Pos). Contains c.list.new.self.recency (member_at c.args.id c.args.number z)) (last-one v (Some l.0) p (l.2 k v e at) last) (subst (λ (m : Memory). Contains m.recency w) (sym (c.list.ensures.listed w l.1)) (elem-here c.args.self.now.recency [] w))
 
 pub returns-else-not-is_listed-clause-listed : goal.returns-else-not-is_listed-clause-listed
 returns-else-not-is_listed-clause-listed g c =
-    λ k v e at. let l = c.in-Some.ensures.some in let w = member c.args.id c.args.number (Some l.0) in
-    (None, (λ p last. subst (λ (z : Option Pos). Contains c.args.self.now.recency (member c.args.id c.args.number z)) (last-one v (Some l.0) p (l.2 k v e at) last) ((c.is_listed.ensures w l.1).0 c.if-not-is_listed.false)), same-listed c.args.self.now)
+    λ k v e at. let l = c.in-Some.ensures.some in let w = member_at c.args.id c.args.number (Some l.0) in
+    (None, (λ p last. subst (λ (z : Option Pos). Contains c.args.self.now.recency (member_at c.args.id c.args.number z)) (last-one v (Some l.0) p (l.2 k v e at) last) ((c.is_listed.ensures w l.1).0 c.if-not-is_listed.false)), same-listed c.args.self.now)
 
 pub returns-else-not-is_listed-clause-there : goal.returns-else-not-is_listed-clause-there
 returns-else-not-is_listed-clause-there g c =
-    λ k v e at p last. let l = c.in-Some.ensures.some in let w = member c.args.id c.args.number (Some l.0) in
-    subst (λ (z : Option Pos). Contains c.args.self.now.recency (member c.args.id c.args.number z)) (last-one v (Some l.0) p (l.2 k v e at) last) ((c.is_listed.ensures w l.1).0 c.if-not-is_listed.false)
+    λ k v e at p last. let l = c.in-Some.ensures.some in let w = member_at c.args.id c.args.number (Some l.0) in
+    subst (λ (z : Option Pos). Contains c.args.self.now.recency (member_at c.args.id c.args.number z)) (last-one v (Some l.0) p (l.2 k v e at) last) ((c.is_listed.ensures w l.1).0 c.if-not-is_listed.false)
 
 pub returns-else-not-is_listed-clause-objects : goal.returns-else-not-is_listed-clause-objects
 returns-else-not-is_listed-clause-objects g c =

@@ -6,7 +6,7 @@ use Rattle.rc_core.specs.Change as change
 use Rattle.rc_core.specs.Continuity.{with_entries}
 use Rattle.rc_core.specs.Version.{Version}
 use Rattle.rc_memory.specs.Memory.{KeptChain, Memory, IsMemberObject}
-use Rattle.rc_memory.specs.Changes.{IsRenewedWhereNone, IsVersionChanged, Nowhere, OfVersion, member}
+use Rattle.rc_memory.specs.Changes.{IsRenewedWhereNone, IsVersionChanged, Nowhere, OfVersion, member_at}
 use Rattle.rc_memory.specs.laws.One.{kept-is}
 use Rattle.rc_chain.proofs.Changing.{dummy-inside, held-version, split-here}
 use Rattle.rc_chain.proofs.Reading.{memory-now, version-has}
@@ -42,7 +42,7 @@ returns-clause-changed g c =
     let v = held-version g.row.S s.recency s.region s.registry s.counts c.args.self.now n c.args.id c.args.number c.requires.version c.version-v.result c.version-v.ensures in
     let it = split-here g.row.S s.recency s.region s.registry s.counts c.args.self.now n c.args.id c.args.number c.requires.version c.split.new.region c.kind-kind.result c.args.x.now c.split.result v.0 v.1 v.2.chain v.2.number (c.kind-kind.ensures v.0 v.2.chain) c.requires.fits c.requires.last (c.split.ensures.changed s.registry s.counts c.args.self.now c.args.id c.args.number v.0 v.1 v.2) in
     let is = kept-is g.row.S s.recency c.split.new.region s.registry s.counts c.self-1.given.0 it.0 it.1.held in
-    subst (IsVersionChanged c.args.id c.args.number (λ (d : Version). with_entries (change.split c.args.x.now d.entries) d) Nowhere c.args.self.now) (sym is) it.2.changed
+    subst (IsVersionChanged c.args.id c.args.number (λ (d : Version). with_entries (change.gap_split c.args.x.now d.entries) d) Nowhere c.args.self.now) (sym is) it.2.changed
 
 pub returns-clause-recency : goal.returns-clause-recency
 returns-clause-recency g c =
@@ -50,7 +50,7 @@ returns-clause-recency g c =
     let v = held-version g.row.S s.recency s.region s.registry s.counts c.args.self.now n c.args.id c.args.number c.requires.version c.version-v.result c.version-v.ensures in
     let it = split-here g.row.S s.recency s.region s.registry s.counts c.args.self.now n c.args.id c.args.number c.requires.version c.split.new.region c.kind-kind.result c.args.x.now c.split.result v.0 v.1 v.2.chain v.2.number (c.kind-kind.ensures v.0 v.2.chain) c.requires.fits c.requires.last (c.split.ensures.changed s.registry s.counts c.args.self.now c.args.id c.args.number v.0 v.1 v.2) in
     let is = kept-is g.row.S s.recency c.split.new.region s.registry s.counts c.self-1.given.0 it.0 it.1.held in
-    subst (λ (m : Memory). OfVersion c.args.self.now c.args.id c.args.number (λ (k : KeptChain) (v : Version). IsRenewedWhereNone k.chain.kind v (member c.args.id c.args.number (Some c.args.x.now)) c.args.self.now.recency m.recency)) (sym is) it.2.recency
+    subst (λ (m : Memory). OfVersion c.args.self.now c.args.id c.args.number (λ (k : KeptChain) (v : Version). IsRenewedWhereNone k.chain.kind v (member_at c.args.id c.args.number (Some c.args.x.now)) c.args.self.now.recency m.recency)) (sym is) it.2.recency
 
 pub returns-clause-here : goal.returns-clause-here
 returns-clause-here g c =
@@ -58,7 +58,7 @@ returns-clause-here g c =
     let v = held-version g.row.S s.recency s.region s.registry s.counts c.args.self.now n c.args.id c.args.number c.requires.version c.version-v.result c.version-v.ensures in
     let it = split-here g.row.S s.recency s.region s.registry s.counts c.args.self.now n c.args.id c.args.number c.requires.version c.split.new.region c.kind-kind.result c.args.x.now c.split.result v.0 v.1 v.2.chain v.2.number (c.kind-kind.ensures v.0 v.2.chain) c.requires.fits c.requires.last (c.split.ensures.changed s.registry s.counts c.args.self.now c.args.id c.args.number v.0 v.1 v.2) in
     let is = kept-is g.row.S s.recency c.split.new.region s.registry s.counts c.self-1.given.0 it.0 it.1.held in
-    subst (λ (m : Memory). IsMemberObject m c.split.result (member c.args.id c.args.number (Some c.args.x.now))) (sym is) it.2.here
+    subst (λ (m : Memory). IsMemberObject m c.split.result (member_at c.args.id c.args.number (Some c.args.x.now))) (sym is) it.2.here
 
 pub returns-clause-spare : goal.returns-clause-spare
 returns-clause-spare g c =

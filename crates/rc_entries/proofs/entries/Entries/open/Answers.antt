@@ -1,5 +1,5 @@
 use Rattle.std.proofs.Common.{sym, ◌∙◌}
-use Rattle.rc_populate.specs.Filling.{given}
+use Rattle.rc_populate.specs.Filling.{filled_statics}
 use Rattle.rc_entries.proofs.Opening.{added-index, added-is, now-entries, now-free, now-settled, room-gone, room-there}
 use Rattle.rc_entries.proofs.Ways.{index-same}
 use Rattle.rc_entries.proofs.entries.Entries.open.Goals as goal
@@ -12,7 +12,7 @@ pub invariant_of-self-in-Ok : goal.invariant_of-self-in-Ok
 invariant_of-self-in-Ok g c =
     let head = c.args.head.now in
     let free = now-free c.args.self.now c.self.inside.numbers.entries c.make_room.new.numbers.entries c.set_number.new.numbers.entries c.args.key.now c.in_ok-name.name c.self.view_is c.in_ok-name.ensures c.requires.absent c.in_ok-make_room.ensures.placed c.in-Ok.id c.set_number.ensures.numbers
-    head.pt (given head.statics) c.args.phase c.args.chains.now c.open_entry.new.chains c.requires.entries c.in-Ok.ensures.opened c.self.inside.keys.entries c.self.invariant in
+    head.pt (filled_statics head.statics) c.args.phase c.args.chains.now c.open_entry.new.chains c.requires.entries c.in-Ok.ensures.opened c.self.inside.keys.entries c.self.invariant in
     added-index c.args.self.now c.self.inside.numbers.entries c.make_room.new.numbers.entries c.set_number.new.numbers.entries c.args.key.now c.in_ok-name.name c.self.view_is c.in_ok-name.ensures c.requires.absent c.in_ok-make_room.ensures.placed c.in-Ok.id c.set_number.ensures.numbers
     c.self.inside.keys.entries c.make_room.new.keys.entries c.set_number.new.keys.entries c.self.invariant free c.in_ok-make_room.ensures.keys c.set_number.ensures.keys
 
@@ -30,13 +30,13 @@ pub returns-in-Ok-clause-entries : goal.returns-in-Ok-clause-entries
 returns-in-Ok-clause-entries g c =
     let head = c.args.head.now in
     now-entries c.args.self.now c.self.inside.numbers.entries c.make_room.new.numbers.entries c.set_number.new.numbers.entries c.args.key.now c.in_ok-name.name c.self.view_is c.in_ok-name.ensures c.requires.absent c.in_ok-make_room.ensures.placed c.in-Ok.id c.set_number.ensures.numbers
-    head.pt (given head.statics) c.args.phase c.args.chains.now c.open_entry.new.chains c.requires.entries c.in-Ok.ensures.opened c.in_ok-make_room.ensures.ascend c.set_number.new.keys.entries (invariant_of-self-in-Ok g c)
+    head.pt (filled_statics head.statics) c.args.phase c.args.chains.now c.open_entry.new.chains c.requires.entries c.in-Ok.ensures.opened c.in_ok-make_room.ensures.ascend c.set_number.new.keys.entries (invariant_of-self-in-Ok g c)
 
 pub returns-in-Ok-clause-settled : goal.returns-in-Ok-clause-settled
 returns-in-Ok-clause-settled g c =
     let head = c.args.head.now in
     now-settled c.args.self.now c.self.inside.numbers.entries c.make_room.new.numbers.entries c.set_number.new.numbers.entries c.args.key.now c.in_ok-name.name c.self.view_is c.in_ok-name.ensures c.requires.absent c.in_ok-make_room.ensures.placed c.in-Ok.id c.set_number.ensures.numbers
-    head.pt (given head.statics) c.args.phase c.args.chains.now c.open_entry.new.chains c.requires.entries c.in-Ok.ensures.opened
+    head.pt (filled_statics head.statics) c.args.phase c.args.chains.now c.open_entry.new.chains c.requires.entries c.in-Ok.ensures.opened
 
 pub returns-in-Err-clause-same : goal.returns-in-Err-clause-same
 returns-in-Err-clause-same g c =

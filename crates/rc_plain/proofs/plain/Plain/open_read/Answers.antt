@@ -10,7 +10,7 @@ use Rattle.rc_stream.specs.declared.streams.StreamErr.TheVariants as stream_err
 use Rattle.rc_stream.specs.Causes.{Caused}
 use Rattle.rc_tables.specs.Tables.{IsDamageOf}
 use Rattle.rc_machine.specs.Steps.{most_readers}
-use Rattle.rc_plain.specs.Stands.{Keeping, Stands}
+use Rattle.rc_plain.specs.Stands.{Keeping, PlainStands}
 use Rattle.rc_plain.proofs.Places.{Readers, open_some, open_none}
 use Rattle.rc_plain.proofs.Standing.{from, stay, to_files, takes_in_use, takes_too_many, takes_fault, takes_damaged, takes_open, damage_seen}
 use Rattle.rc_plain.proofs.plain.Plain.open_read.Goals as goal
@@ -33,7 +33,7 @@ returns-in_ok-push-in-Ok-clause-step g c =
     from (OpenRead c.args.id c.args.key.now c.args.slice.now) replies.Fine c.self.view_is
     (to_files (OpenRead c.args.id c.args.key.now c.args.slice.now) replies.Fine c.in-Ok.ensures.store.0
     (takes_open (g.W.Store.files c.args.store.now) _ c.args.id c.args.key.now c.args.slice.now c.in-Ok.lines c.push.new.self.items shut few
-    (λ m s. c.in-Ok.ensures.lines m (subst (λ (k : Keeping). Stands (g.W.Store.files c.args.store.now) k m) c.self.view_is s))
+    (λ m s. c.in-Ok.ensures.lines m (subst (λ (k : Keeping). PlainStands (g.W.Store.files c.args.store.now) k m) c.self.view_is s))
     (◌∙◌ {A = Readers} c.in_ok-push-in-Ok.ensures.items (ap (λ (lines : List OutLine). c.self.inside.readers.items ++ (c.args.id, lines) ∷ []) c.new.ensures))))
 
 pub returns-in-Err-Fault-clause-step : goal.returns-in-Err-Fault-clause-step

@@ -6,7 +6,7 @@ use Rattle.rc_tfile.specs.TableText.{PartsFit}
 use Rattle.rc_lines.specs.declared.commands.Reply.TheVariants as replies
 use Rattle.rc_machine.specs.State.{State}
 use Rattle.rc_folder.specs.Tabled.{IsTableAdded}
-use Rattle.rc_plain.specs.Stands.{Keeping, Stands}
+use Rattle.rc_plain.specs.Stands.{Keeping, PlainStands}
 use Rattle.rc_plain.specs.calls.Storing.{folder_of, IsTableKept, IsFlushKept}
 use Rattle.rc_plain.proofs.Tabled.{no_file, parts_of_sealed}
 use Rattle.rc_plain.proofs.plain.Plain.write_sealed.Goals as goal
@@ -14,7 +14,7 @@ use Rattle.rc_plain.proofs.plain.Plain.write_sealed.Goals as goal
 pub add-requires-clause-fit : goal.add-requires-clause-fit
 add-requires-clause-fit g c =
     subst (λ (parts : List Partition). PartsFit c.self.inside.folder.schema parts) (sym c.as_slice.ensures.value)
-    (parts_of_sealed (g.W.Store.files c.args.store.now) _ c.in_ok-parts.parts.items (subst (λ (k : Keeping). (m : State) × Stands (g.W.Store.files c.args.store.now) k m) (sym c.self.view_is) c.requires.stands) c.in_ok-parts.ensures)
+    (parts_of_sealed (g.W.Store.files c.args.store.now) _ c.in_ok-parts.parts.items (subst (λ (k : Keeping). (m : State) × PlainStands (g.W.Store.files c.args.store.now) k m) (sym c.self.view_is) c.requires.stands) c.in_ok-parts.ensures)
 
 pub add-requires-clause-mutations : goal.add-requires-clause-mutations
 add-requires-clause-mutations g c = subst (λ (parts : List Partition). All (λ p. IsMutation p.change) parts) (sym c.as_slice.ensures.value) c.in_ok-parts.ensures.mutations

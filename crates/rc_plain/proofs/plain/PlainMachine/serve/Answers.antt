@@ -1,7 +1,7 @@
 -- An answer is counted, and what is told goes on from there.
 use Rattle.std.proofs.Common.{◌∙◌, sym, subst}
 use Rattle.rc_folder.specs.Counting.{counted_answer}
-use Rattle.rc_plain.specs.Stands.{Keeping, Stands}
+use Rattle.rc_plain.specs.Stands.{Keeping, PlainStands}
 use Rattle.rc_plain.specs.calls.Counting.{AreSameCounts}
 use Rattle.rc_plain.proofs.Counted.{are-counted, stands-counted}
 use Rattle.rc_plain.proofs.plain.PlainMachine.serve.Goals as goal
@@ -35,4 +35,4 @@ returns-clause-step g c = λ m s.
     } in
     let files = g.W.Store.files c.step.new.store in
     let t = c.in_ok-reply.ensures.step m s in
-    (t.0, t.1, stands-counted files mid t.0 c.count-self-inside.result (subst (λ (k : Keeping). Stands files k t.0) (sym c.self.view_is) t.2))
+    (t.0, t.1, stands-counted files mid t.0 c.count-self-inside.result (subst (λ (k : Keeping). PlainStands files k t.0) (sym c.self.view_is) t.2))

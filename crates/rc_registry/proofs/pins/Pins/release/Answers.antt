@@ -1,5 +1,5 @@
 use Rattle.std.proofs.Common.{ap, ◌∙◌, IsSome, arith, subst, sym}
-use Rattle.rc_core.specs.Steps.{pin_at, released}
+use Rattle.rc_core.specs.Steps.{pin_at, pins_without}
 use Rattle.rc_registry.proofs.PinLists.{pin_at-there, released-is}
 use Rattle.rc_registry.proofs.pins.Pins.release.Goals as goal
 
@@ -9,4 +9,4 @@ index_mut-requires c =
     omega (arith, lt, c.self.inside.versions.ok.0)
 
 pub returns : goal.returns
-returns c = released-is c.self.inside.versions.items c.args.pin ∙ ap (released c.args.pin) c.self.view_is
+returns c = released-is c.self.inside.versions.items c.args.pin ∙ ap (pins_without c.args.pin) c.self.view_is

@@ -2,7 +2,7 @@ use Rattle.std.proofs.Common.{◌≡◌, ◌∙◌, None, Some, ap, sym, subst, 
 use Rattle.std.proofs.Math.ListN.{set}
 use Rattle.std.specs.VecDeque.{deque_capacity}
 use Rattle.rc_registry.specs.Kept.{IsKeptRegistry}
-use Rattle.rc_registry.specs.Registry.{Registry, IsNumberIn, new_use, put, use_at, with_use}
+use Rattle.rc_registry.specs.Registry.{Registry, IsNumberIn, new_use, put_at_number, use_at, with_use}
 use Rattle.rc_registry.proofs.Keeping.{kept-added, kept-wider, no-other, seen, taken-then}
 use Rattle.rc_registry.proofs.registry.Registry.insert.Goals as goal
 
@@ -30,7 +30,7 @@ invariant_of-self-2 c =
     (deque_capacity m.dropped) new.none new.once new.idle
     (new.long (Some v) (vec_capacity t.new.vacant) (omega (arith, c.self.invariant.vacant_fit, e.wider.0, t.ensures.room)) (λ none. omega (arith, (e.room none).1, t.ensures.room)))
     (new.long (Some v) (deque_capacity m.dropped) (omega (arith, c.self.invariant.dropped_fit, e.wider.1)) (λ none. (e.room none).2)) (no-other i.uses.items i.dropped.items c.args.self.now c.self.view_is root c.requires) e.owners.stay e.owners.longer e.within in
-    let made = new.made (Some c.new_use.result) ∙ ap (λ u. put id (Some u) i.uses.items) c.new_use.ensures in
+    let made = new.made (Some c.new_use.result) ∙ ap (λ u. put_at_number id (Some u) i.uses.items) c.new_use.ensures in
     rw e.same.2
     (subst (λ us. IsKeptRegistry us t.new.vacant.items i.dropped.items (set m.owners.items root.number id) (vec_capacity t.new.vacant) (deque_capacity m.dropped)) (sym made) kept)
 
@@ -39,7 +39,7 @@ returns-clause-made c =
     let i = c.self.inside in let m = c.make_room.new in let e = c.in_ok-make_room.ensures in let t = c.take_number-id in let id = t.result in
     let new = taken-then i.uses.items m.uses.items t.new.uses.items i.vacant.items m.vacant.items t.new.vacant.items i.dropped.items i.owners.items (vec_capacity i.vacant) (deque_capacity i.dropped) id
     c.self.invariant e.same.0 e.same.1 t.ensures.taken in
-    ap (λ ds. seen (set t.new.uses.items id (Some c.new_use.result)) ds) e.same.2 ∙ ap (λ us. seen us i.dropped.items) (new.made (Some c.new_use.result) ∙ ap (λ u. put id (Some u) i.uses.items) c.new_use.ensures)
+    ap (λ ds. seen (set t.new.uses.items id (Some c.new_use.result)) ds) e.same.2 ∙ ap (λ us. seen us i.dropped.items) (new.made (Some c.new_use.result) ∙ ap (λ u. put_at_number id (Some u) i.uses.items) c.new_use.ensures)
     ∙ ap (with_use id (Some (new_use c.args.root c.args.kind))) c.self.view_is
 
 pub returns-clause-vacant : goal.returns-clause-vacant

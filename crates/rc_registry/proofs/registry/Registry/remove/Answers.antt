@@ -2,7 +2,7 @@ use Rattle.std.proofs.Common.{◌∷◌, ◌∙◌, ◌++◌, [], None, ap, sym,
 use Rattle.std.specs.VecDeque.{deque_capacity}
 use Rattle.std.proofs.Math.ListN.{set}
 use Rattle.rc_registry.specs.Kept.{IsKeptRegistry}
-use Rattle.rc_registry.specs.Registry.{Registry, put}
+use Rattle.rc_registry.specs.Registry.{Registry, put_at_number}
 use Rattle.rc_registry.specs.laws.Puts.{put-within}
 use Rattle.rc_registry.proofs.Keeping.{dropped-room, is-there, is-within, kept-removed, seen}
 use Rattle.rc_registry.proofs.registry.Registry.remove.Goals as goal
@@ -27,4 +27,4 @@ returns c =
     let i = c.self.inside in let id = c.args.id in
     let uses = put-within i.uses.items id None (is-within i.uses.items i.dropped.items c.args.self.now c.self.view_is id c.requires) in
     ap (λ ds. seen (set i.uses.items id None) ds) c.push_back_reserved.ensures.items ∙ ap (λ us. seen us (i.dropped.items ++ id ∷ [])) uses
-    ∙ ap (λ (r : Registry). seen (put id None r.uses) (r.dropped ++ id ∷ [])) c.self.view_is
+    ∙ ap (λ (r : Registry). seen (put_at_number id None r.uses) (r.dropped ++ id ∷ [])) c.self.view_is

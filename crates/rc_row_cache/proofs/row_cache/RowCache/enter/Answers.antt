@@ -4,7 +4,7 @@ use Rattle.rc_cell.specs.declared.rows.Row.{Row}
 use Rattle.rc_cell.specs.declared.writes.Tomb.{Tomb}
 use Rattle.rc_rowcode.specs.Spelling.{RowFits}
 use Rattle.rc_version.specs.Versions.{statics_bytes}
-use Rattle.rc_entries.specs.Filling.{given}
+use Rattle.rc_entries.specs.Filling.{filled_statics}
 use Rattle.rc_snapshots.specs.laws.Seeing.{all-see}
 use Rattle.rc_row_cache.specs.Calls.{IsEnterRefused, IsEntered, below_entry}
 use Rattle.rc_row_cache.specs.Saying.{CacheSays}
@@ -16,7 +16,7 @@ use Rattle.rc_row_cache.proofs.row_cache.RowCache.enter.Goals as goal
 
 pub enter_by-requires : goal.enter_by-requires
 enter_by-requires g c =
-    let small : statics_bytes (given c.in-Ok.head.statics) ≤ g.row.S / 8 = subst (λ (r : Row). statics_bytes (given r) ≤ g.row.S / 8) (sym c.in-Ok.ensures.1) c.requires.small in
+    let small : statics_bytes (filled_statics c.in-Ok.head.statics) ≤ g.row.S / 8 = subst (λ (r : Row). statics_bytes (filled_statics r) ≤ g.row.S / 8) (sym c.in-Ok.ensures.1) c.requires.small in
     (omega arith, (c.requires.entries, (c.requires.absent, (c.requires.roomy, (subst RowFits (sym c.in-Ok.ensures.1) c.requires.row, small)))))
 
 pub returns-in-Ok-clause-entered : goal.returns-in-Ok-clause-entered

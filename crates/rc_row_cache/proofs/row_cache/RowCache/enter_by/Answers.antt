@@ -4,7 +4,7 @@ use Rattle.rc_schema.specs.SchemaValue.{SchemaValue}
 use Rattle.rc_mutation.specs.declared.mutations.Mutation.{Mutation}
 use Rattle.rc_version.specs.Versions.{statics_bytes}
 use Rattle.rc_memory.specs.Memory.{Memory, chain_at, counts_raised, raised_by, with_dropped}
-use Rattle.rc_entries.specs.Filling.{IsEntryOpened, given}
+use Rattle.rc_entries.specs.Filling.{IsEntryOpened, filled_statics}
 use Rattle.rc_chain.specs.declared.chains.Snap.{Snap}
 use Rattle.rc_row_cache.specs.Calls.{IsEnterRefused, IsEntered, IsKeptOut, IsOpenRefused, IsTakenOf, below_entry}
 use Rattle.rc_row_cache.specs.Saying.{Below, CacheSays}
@@ -27,8 +27,8 @@ open-requires g c =
     let entries = c.forget_dropped.ensures.entries (c.what_leaves_the_caches_chains_leaves_the_entries.ensures.entries c.args.self.now.entries old made (c.room_leaves_the_entries.ensures.room g.row.S old made c.known.ensures.told room) c.requires.entries) in
     let absent = still-absent c.args.self.now.entries c.forget_dropped.new.self c.args.key.now (λ id e. (c.forget_dropped.ensures.forgotten.left c.args.key.now id e).0) c.requires.absent in
     let fits : 88 ≤ g.row.S / 8 = let roomy = c.requires.roomy in omega (arith, roomy) in
-    let spare : 152 + statics_bytes (given c.args.head.now.statics) ≤ spare_of g.row.S told.region.usages =
-    subst (λ (m : Memory). 152 + statics_bytes (given c.args.head.now.statics) ≤ spare_of g.row.S m.region.usages) (sym c.forget_dropped.ensures.told)
+    let spare : 152 + statics_bytes (filled_statics c.args.head.now.statics) ≤ spare_of g.row.S told.region.usages =
+    subst (λ (m : Memory). 152 + statics_bytes (filled_statics c.args.head.now.statics) ≤ spare_of g.row.S m.region.usages) (sym c.forget_dropped.ensures.told)
     (subst (λ n. 152 + n ≤ spare_of g.row.S made.region.usages) c.static_need-need.ensures.value (c.in-Room.ensures.room refl)) in
     (omega arith, (entries, (c.forget_dropped.ensures.settled, (absent, (fits, (c.requires.row, (c.requires.small, spare)))))))
 
@@ -40,13 +40,13 @@ returns-in-Room-clause-entered g c =
     let room = c.make_room-room.ensures.made in
     let new = c.open.new.chains in
     if-some c.open.result
-    (λ (s : Snap). (mid : Memory) × IsEntryOpened s.chain c.args.head.now.pt (given c.args.head.now.statics) c.args.phase told mid × IsTakenOf c.args.key.now c.open.new.self.entries mid new s)
+    (λ (s : Snap). (mid : Memory) × IsEntryOpened s.chain c.args.head.now.pt (filled_statics c.args.head.now.statics) c.args.phase told mid × IsTakenOf c.args.key.now c.open.new.self.entries mid new s)
     (IsEntered g.row.S c.args.key.now c.args.head.now.pt c.args.head.now.statics c.args.phase c.open.new.self.entries old new)
     (λ s h. record {
       made = made;
       room = room;
       between = h.0;
-      opened = subst (λ (m : Memory). IsEntryOpened s.chain c.args.head.now.pt (given c.args.head.now.statics) c.args.phase m h.0) c.forget_dropped.ensures.told h.1;
+      opened = subst (λ (m : Memory). IsEntryOpened s.chain c.args.head.now.pt (filled_statics c.args.head.now.statics) c.args.phase m h.0) c.forget_dropped.ensures.told h.1;
       taken = h.2;
     })
     c.open.ensures.entered

@@ -3,7 +3,7 @@ use Rattle.rc_memory.specs.Memory.{Memory, chain_at}
 use Rattle.rc_chain.specs.declared.chains.Snap.{Snap}
 use Rattle.rc_entries.specs.Entries.{AreEntries, AreSettled}
 use Rattle.rc_entries.specs.Found.{entry_number}
-use Rattle.rc_entries.specs.Filling.{IsEntryOpened, MayFill, given}
+use Rattle.rc_entries.specs.Filling.{IsEntryOpened, MayFill, filled_statics}
 use Rattle.rc_snapshots.specs.laws.Seeing.{lost-then}
 use Rattle.rc_row_cache.specs.Calls.{IsOpenRefused, IsTakenOf, below_entry}
 use Rattle.rc_row_cache.specs.Saying.{CacheSays, with_below}
@@ -25,13 +25,13 @@ returns-in-Ok-clause-may g c =
     let laws : SnapshotLaws = record { free = more.free; given_at = more.given; others = more.others; chain = more.chain; form = more.form } in
     let here = entry-here c.each_key_is_found.ensures.added c.args.self.now.entries c.open.new.self c.args.key.now c.in-Ok.id c.requires.absent c.in-Ok.ensures.added in
     if-some c.snapshot_of.result (IsTakenOf c.args.key.now c.open.new.self c.open.new.chains c.snapshot_of.new.chains) (λ (s : Snap). MayFill c.snapshot_of.new.chains s.chain s.pin)
-    (λ s t. entered-may laws c.in-Ok.id c.args.phase c.args.head.now.pt (given c.args.head.now.statics) c.args.chains.now c.open.new.chains c.snapshot_of.new.chains c.in-Ok.ensures.opened s (number-same c.in-Ok.id s.chain (sym here ∙ t.entry)) t.taken)
+    (λ s t. entered-may laws c.in-Ok.id c.args.phase c.args.head.now.pt (filled_statics c.args.head.now.statics) c.args.chains.now c.open.new.chains c.snapshot_of.new.chains c.in-Ok.ensures.opened s (number-same c.in-Ok.id s.chain (sym here ∙ t.entry)) t.taken)
     c.snapshot_of.ensures.taken
 
 pub returns-in-Ok-clause-refused : goal.returns-in-Ok-clause-refused
 returns-in-Ok-clause-refused g c =
     on-err c.snapshot_of.result (c.snapshot_of.new.chains ≡ c.open.new.chains) (IsOpenRefused c.args.head.now.pt c.args.head.now.statics c.args.phase c.args.chains.now c.snapshot_of.new.chains)
-    (λ same. inr (c.in-Ok.id, subst (IsEntryOpened c.in-Ok.id c.args.head.now.pt (given c.args.head.now.statics) c.args.phase c.args.chains.now) (sym same) c.in-Ok.ensures.opened)) c.snapshot_of.ensures.err
+    (λ same. inr (c.in-Ok.id, subst (IsEntryOpened c.in-Ok.id c.args.head.now.pt (filled_statics c.args.head.now.statics) c.args.phase c.args.chains.now) (sym same) c.in-Ok.ensures.opened)) c.snapshot_of.ensures.err
 
 pub returns-in-Err-clause-refused : goal.returns-in-Err-clause-refused
 returns-in-Err-clause-refused g c = inl c.in-Err.ensures.err
@@ -43,15 +43,15 @@ pub returns-in-Ok-clause-says : goal.returns-in-Ok-clause-says
 returns-in-Ok-clause-says g c = λ schema below writes fit head row says.
     subst (λ o. CacheSays schema (below_entry o writes below) c.snapshot_of.new.chains) (sym (entry-here c.each_key_is_found.ensures.added c.args.self.now.entries c.open.new.self c.args.key.now c.in-Ok.id c.requires.absent c.in-Ok.ensures.added))
     (c.snapshot_of.ensures.says schema (with_below c.in-Ok.id writes below)
-    (c.the_cache_says_what_lies_below.ensures.opened schema below c.in-Ok.id c.args.phase c.args.head.now.pt (given c.args.head.now.statics) writes c.args.chains.now c.open.new.chains c.in-Ok.ensures.opened fit (sym head) (ap given (sym row)) says))
+    (c.the_cache_says_what_lies_below.ensures.opened schema below c.in-Ok.id c.args.phase c.args.head.now.pt (filled_statics c.args.head.now.statics) writes c.args.chains.now c.open.new.chains c.in-Ok.ensures.opened fit (sym head) (ap filled_statics (sym row)) says))
 
 pub returns-in-Ok-clause-pins : goal.returns-in-Ok-clause-pins
 returns-in-Ok-clause-pins g c = λ below id pin. pins-then below id pin c.args.chains.now c.open.new.chains c.snapshot_of.new.chains
-    (opened-pinned c.in-Ok.id c.args.phase c.args.head.now.pt (given c.args.head.now.statics) c.args.chains.now c.open.new.chains c.in-Ok.ensures.opened below id pin) (c.snapshot_of.ensures.pins below id pin)
+    (opened-pinned c.in-Ok.id c.args.phase c.args.head.now.pt (filled_statics c.args.head.now.statics) c.args.chains.now c.open.new.chains c.in-Ok.ensures.opened below id pin) (c.snapshot_of.ensures.pins below id pin)
 
 pub returns-in-Ok-clause-seen : goal.returns-in-Ok-clause-seen
 returns-in-Ok-clause-seen g c = lost-then c.args.chains.now c.open.new.chains c.snapshot_of.new.chains
-    (opened-lost c.in-Ok.id c.args.phase c.args.head.now.pt (given c.args.head.now.statics) c.args.chains.now c.open.new.chains c.in-Ok.ensures.opened) c.snapshot_of.ensures.seen
+    (opened-lost c.in-Ok.id c.args.phase c.args.head.now.pt (filled_statics c.args.head.now.statics) c.args.chains.now c.open.new.chains c.in-Ok.ensures.opened) c.snapshot_of.ensures.seen
 
 pub returns-in-Err-clause-entries : goal.returns-in-Err-clause-entries
 returns-in-Err-clause-entries g c = subst (λ es. AreEntries es c.open.new.chains) (sym c.in-Err.ensures.same)
@@ -74,7 +74,7 @@ returns-in-Err-clause-seen g c = same-lost c.args.chains.now c.open.new.chains (
 
 pub returns-in-Ok-clause-loses : goal.returns-in-Ok-clause-loses
 returns-in-Ok-clause-loses g c = loses-before g.row.S 1 c.args.chains.now c.open.new.chains c.snapshot_of.new.chains
-    (loses-opened g.row.S c.in-Ok.id c.args.head.now.pt (given c.args.head.now.statics) c.args.phase c.args.chains.now c.open.new.chains c.known.ensures.live c.known-in-Ok.ensures.live c.in-Ok.ensures.opened) c.snapshot_of.ensures.loses
+    (loses-opened g.row.S c.in-Ok.id c.args.head.now.pt (filled_statics c.args.head.now.statics) c.args.phase c.args.chains.now c.open.new.chains c.known.ensures.live c.known-in-Ok.ensures.live c.in-Ok.ensures.opened) c.snapshot_of.ensures.loses
 
 pub returns-in-Err-clause-loses : goal.returns-in-Err-clause-loses
 returns-in-Err-clause-loses g c = loses-wider g.row.S 1 c.args.chains.now c.open.new.chains (loses-slots g.row.S c.args.chains.now c.open.new.chains c.in-Err.ensures.err)

@@ -5,7 +5,7 @@ use Rattle.rc_mutation.specs.Source.{IsMutation}
 use Rattle.rc_snapshots.specs.laws.Seeing.{all-see, lost-then}
 use Rattle.rc_tfile.specs.TableText.{PartsFit}
 use Rattle.rc_folder.specs.Tabled.{IsTableAdded}
-use Rattle.rc_shard.specs.calls.Storing.{IsKept}
+use Rattle.rc_shard.specs.calls.Storing.{KeepsUnstored}
 use Rattle.rc_shard.proofs.Flushing.{no-file, parts-of-sealed}
 use Rattle.rc_lookup.specs.Writes.{DoAscend}
 use Rattle.rc_lookup.specs.NoMore.{counts-then, no-more-then}
@@ -61,22 +61,22 @@ forget_all-requires g c =
 
 pub returns-in_err-parts-clause-err : goal.returns-in_err-parts-clause-err
 returns-in_err-parts-clause-err g c =
-    let kept : IsKept c.args.self.now.folder.schema c.args.self.now.unstored c.sealed_partitions.new.self =
+    let kept : KeepsUnstored c.args.self.now.folder.schema c.args.self.now.unstored c.sealed_partitions.new.self =
     room-kept c.args.self.now.folder.schema c.args.self.now.unstored c.sealed_partitions.new.self (λ writes later h. c.sealed_partitions.ensures.stands c.args.self.now.folder.schema writes later h) c.sealed_partitions.ensures.seen (c.what_a_call_leaves_of_the_room.ensures.before _ _ c.sealed_partitions.ensures.left) (c.what_calls_leave_of_the_cache.ensures.before _ _ c.sealed_partitions.ensures.left) in
-    let left : (c.args.self.now.folder ≡ c.args.self.now.folder) × (c.args.self.now.cache ≡ c.args.self.now.cache) × IsKept c.args.self.now.folder.schema c.args.self.now.unstored c.sealed_partitions.new.self × (g.W.Store.files c.args.store.now ≡ g.W.Store.files c.args.store.now) = (refl, refl, kept, refl) in
+    let left : (c.args.self.now.folder ≡ c.args.self.now.folder) × (c.args.self.now.cache ≡ c.args.self.now.cache) × KeepsUnstored c.args.self.now.folder.schema c.args.self.now.unstored c.sealed_partitions.new.self × (g.W.Store.files c.args.store.now ≡ g.W.Store.files c.args.store.now) = (refl, refl, kept, refl) in
     on-err _ _ left
 
 pub returns-clause-written : goal.returns-clause-written
 returns-clause-written g c =
-    let kept : IsKept c.args.self.now.folder.schema c.args.self.now.unstored c.sealed_partitions.new.self =
+    let kept : KeepsUnstored c.args.self.now.folder.schema c.args.self.now.unstored c.sealed_partitions.new.self =
     room-kept c.args.self.now.folder.schema c.args.self.now.unstored c.sealed_partitions.new.self (λ writes later h. c.sealed_partitions.ensures.stands c.args.self.now.folder.schema writes later h) c.sealed_partitions.ensures.seen (c.what_a_call_leaves_of_the_room.ensures.before _ _ c.sealed_partitions.ensures.left) (c.what_calls_leave_of_the_cache.ensures.before _ _ c.sealed_partitions.ensures.left) in
     if-ok-weaker c.not_written.result _ _ (λ reply is. inr (is.1, c.in-Err.ensures.refused.0, refl, kept, c.in-Err.ensures.refused.1)) c.not_written.ensures
 
 pub returns-clause-err : goal.returns-clause-err
 returns-clause-err g c =
-    let kept : IsKept c.args.self.now.folder.schema c.args.self.now.unstored c.sealed_partitions.new.self =
+    let kept : KeepsUnstored c.args.self.now.folder.schema c.args.self.now.unstored c.sealed_partitions.new.self =
     room-kept c.args.self.now.folder.schema c.args.self.now.unstored c.sealed_partitions.new.self (λ writes later h. c.sealed_partitions.ensures.stands c.args.self.now.folder.schema writes later h) c.sealed_partitions.ensures.seen (c.what_a_call_leaves_of_the_room.ensures.before _ _ c.sealed_partitions.ensures.left) (c.what_calls_leave_of_the_cache.ensures.before _ _ c.sealed_partitions.ensures.left) in
-    let left : (c.add.new.self ≡ c.args.self.now.folder) × (c.args.self.now.cache ≡ c.args.self.now.cache) × IsKept c.args.self.now.folder.schema c.args.self.now.unstored c.sealed_partitions.new.self × (g.W.Store.files c.add.new.store ≡ g.W.Store.files c.args.store.now) = (c.in-Err.ensures.refused.0, refl, kept, c.in-Err.ensures.refused.1) in
+    let left : (c.add.new.self ≡ c.args.self.now.folder) × (c.args.self.now.cache ≡ c.args.self.now.cache) × KeepsUnstored c.args.self.now.folder.schema c.args.self.now.unstored c.sealed_partitions.new.self × (g.W.Store.files c.add.new.store ≡ g.W.Store.files c.args.store.now) = (c.in-Err.ensures.refused.0, refl, kept, c.in-Err.ensures.refused.1) in
     on-err _ _ left
 
 pub returns-in_err-parts-clause-counts : goal.returns-in_err-parts-clause-counts

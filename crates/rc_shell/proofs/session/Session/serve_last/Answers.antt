@@ -1,6 +1,6 @@
 use Rattle.std.proofs.Common.{◌≡◌, ◌≢◌, [], None, length, ap, arith, ◌∙◌}
 use Rattle.std.proofs.lemmas.Bool.Decides.{nat_tests}
-use Rattle.rc_shell.specs.calls.Feed.{kept}
+use Rattle.rc_shell.specs.calls.Feed.{kept_front}
 use Rattle.rc_shell.specs.Step.{LineStep, EndsRun, LeavesStore}
 use Rattle.rc_shell.proofs.Ending.{nothing_left, last_served}
 use Rattle.rc_shell.proofs.Serving.{kept-nil}
@@ -13,5 +13,5 @@ returns-then-is_empty-clause-served g c = λ rest old is at.
 
 pub returns-clause-served : goal.returns-clause-served
 returns-clause-served g c = λ rest old is at.
-    let some : rest ≢ [] = λ empty. (let none : length c.args.self.now.held.items ≡ 0 = ap length (is ∙ ap kept empty ∙ kept-nil) in grind (arith, nat_tests)) in
+    let some : rest ≢ [] = λ empty. (let none : length c.args.self.now.held.items ≡ 0 = ap length (is ∙ ap kept_front empty ∙ kept-nil) in grind (arith, nat_tests)) in
     last_served LineStep EndsRun LeavesStore 0 old rest _ (g.W.Store.files c.serve_held.new.store, g.W.Store.faults c.serve_held.new.store, g.W.Store.asks c.serve_held.new.store) _ _ _ _ c.serve_held.result some (c.serve_held.ensures.served rest old is at)

@@ -2,7 +2,7 @@
 use Rattle.std.proofs.Common.{◌∙◌, None}
 use Rattle.rc_stream.specs.Both.{HoldBoth, MaySeekBoth, SoughtBoth, SpotsOfBoth}
 use Rattle.rc_stream.specs.Leaving.{left_by}
-use Rattle.rc_stream.specs.Did.{OneCall, answered, merge_state}
+use Rattle.rc_stream.specs.Did.{OneCall, has_answer, merge_state}
 use Rattle.rc_stream.proofs.Blaming.{blames-after, blames-err}
 use Rattle.rc_stream.proofs.Chains.{also-due, chain-after, chain-on}
 use Rattle.rc_stream.proofs.Due.{after-none, ahead-none, none-after, none-ahead, not-due}
@@ -42,7 +42,7 @@ returns-in-Ok-clause-moves g c = moved-moved g.A.Frags.moves g.B.Frags.moves c.a
 
 pub returns-in-Ok-clause-did : goal.returns-in-Ok-clause-did
 returns-in-Ok-clause-did g c = λ y covers.
-    let ok = answered c.next_of_both.result in
+    let ok = has_answer c.next_of_both.result in
     let due = c.args.self.now.due in
     let on = covers-on (SoughtBoth g.A.Frags.seen g.B.Frags.seen c.args.self.now c.args.home.now c.args.store.now) (HoldBoth g.A.Frags.seen g.B.Frags.seen c.settle.new.merge c.settle.new.home c.settle.new.store) c.args.upto.now y (λ s b. none-after (HoldBoth g.A.Frags.seen g.B.Frags.seen c.settle.new.merge c.settle.new.home c.settle.new.store) c.settle.new.merge.due s c.in-Ok.ensures.ok (c.settle.ensures.seen s b)) covers in
     record { calls = chain-after (OneCall g.A.Frags.did g.B.Frags.did due y) ok (merge_state c.args.self.now c.args.home.now c.args.store.now) (merge_state c.settle.new.merge c.settle.new.home c.settle.new.store) (merge_state c.next_of_both.new.merge c.next_of_both.new.home c.next_of_both.new.store) (c.in-Ok.ensures.did y) (chain-on (OneCall g.A.Frags.did g.B.Frags.did None y) (OneCall g.A.Frags.did g.B.Frags.did due y) (also-due due y g.A.Frags.did g.B.Frags.did) ok (merge_state c.settle.new.merge c.settle.new.home c.settle.new.store) (merge_state c.next_of_both.new.merge c.next_of_both.new.home c.next_of_both.new.store) (c.next_of_both.ensures.did y on)) }

@@ -2,14 +2,14 @@
 use Rattle.std.proofs.Common.{refl, sym, subst, Some}
 use Rattle.rc_position.specs.declared.positions.Pos.{Pos}
 use Rattle.rc_stream.specs.Both.{AfterDue, HoldBoth, MaySeekBoth, SpotsOfBoth}
-use Rattle.rc_stream.specs.Stream.{sought}
+use Rattle.rc_stream.specs.Stream.{sought_stream}
 use Rattle.rc_stream.proofs.Blaming.{blames-none}
 use Rattle.rc_stream.proofs.Due.{sought-due, sought-later}
 use Rattle.rc_stream.proofs.Going.{both-later}
 use Rattle.rc_stream.proofs.merges.MergeFrags.seek.Goals as goal
 
 pub returns-in-Ok-clause-seen : goal.returns-in-Ok-clause-seen
-returns-in-Ok-clause-seen g c = λ s b. subst (λ (z : Pos). AfterDue (Some z) (HoldBoth g.A.Frags.seen g.B.Frags.seen c.args.self.now c.args._home.now c.args._store.now) (sought c.args.to.now s)) (sym c.in-Ok.ensures) (sought-later (HoldBoth g.A.Frags.seen g.B.Frags.seen c.args.self.now c.args._home.now c.args._store.now) (MaySeekBoth g.A.Frags.ahead g.B.Frags.ahead c.args.self.now) c.args.self.now.due c.args.to.now s c.requires.ahead b)
+returns-in-Ok-clause-seen g c = λ s b. subst (λ (z : Pos). AfterDue (Some z) (HoldBoth g.A.Frags.seen g.B.Frags.seen c.args.self.now c.args._home.now c.args._store.now) (sought_stream c.args.to.now s)) (sym c.in-Ok.ensures) (sought-later (HoldBoth g.A.Frags.seen g.B.Frags.seen c.args.self.now c.args._home.now c.args._store.now) (MaySeekBoth g.A.Frags.ahead g.B.Frags.ahead c.args.self.now) c.args.self.now.due c.args.to.now s c.requires.ahead b)
 
 pub returns-in-Ok-clause-ready : goal.returns-in-Ok-clause-ready
 returns-in-Ok-clause-ready g c = (
