@@ -38,9 +38,3 @@ IsElsewhere slots v (Slot root) = (root ≢ slots.front) × (root ≢ slots.back
 abbrev pub first : List Ref → Option Ref
 first [] = None
 first (r ∷ refs) = Some r
-
--- the object of which a link is named; None where a root slot is, or nothing
-abbrev pub object_of : Option End → Option Ref
-object_of None = None
-object_of (Some (Obj r field)) = Some r
-object_of (Some (Slot root)) = None

@@ -2,7 +2,8 @@
 ghost use Rattle.std.specs.Prelude.{◌≡◌, ◌≢◌, ℕ, List as Sequence, [], ◌∷◌, ◌++◌, None};
 ghost use Rattle.lsa_region.specs.Ref.{Ref as Name};
 ghost use Rattle.lsa_region.specs.Region.{link_of, IsWell, SameObjects};
-ghost use Rattle.lsa_list.specs.Recency.{HasRecency, IsList, IsElsewhere, first, object_of};
+ghost use Rattle.lsa_list.specs.Recency.{HasRecency, IsList, IsElsewhere, first};
+ghost use Rattle.lsa_list.specs.calls.Recency.{object_of};
 
 use lsa_path::{insert_behind, take_out};
 use lsa_region::{End, Ref, Region, Root};

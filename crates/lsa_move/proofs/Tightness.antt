@@ -10,7 +10,7 @@ use Rattle.lsa_pool.specs.declared.State.{State}
 use Rattle.lsa_pool.specs.declared.State.TheVariants.{Free, Active, Closed}
 use Rattle.lsa_pool.specs.Account.{IsSound}
 use Rattle.lsa_pool.specs.Room.{nothing, usage_of, is_state_free, is_state_active, is_state_closed, free_count, live_sum, active_of, spare_of}
-use Rattle.lsa_pool.specs.Sparsest.{IsBest}
+use Rattle.lsa_pool.specs.calls.Sparsest.{IsBest}
 use Rattle.lsa_pool.specs.laws.Usages.{within, set_elim, sparsest-best, active-state, closed-inside}
 use Rattle.lsa_region.specs.Stock.{sparse_of}
 use Rattle.lsa_region.specs.Sparse.{sparse-is}

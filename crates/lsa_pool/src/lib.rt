@@ -226,7 +226,7 @@ const EMPTY: Usage = Usage {
     live: 0,
 };
 
-ghost use Rattle.lsa_pool.specs.Sparsest.{IsBest};
+ghost use Rattle.lsa_pool.specs.calls.Sparsest.{IsBest};
 
 // The closed segment with least live, the first of such.
 fn least_live(usages: &[Usage]) -> Option<u32>

@@ -23,7 +23,8 @@ use Rattle.lsa_region.specs.declared.end.Root.{Root}
 use Rattle.lsa_region.specs.declared.end.End.{End}
 use Rattle.lsa_region.specs.declared.end.End.TheVariants.{Obj, Slot}
 use Rattle.lsa_region.specs.Codes.{end_of}
-use Rattle.lsa_region.specs.Ends.{same_ref, swapped_end, swapped_ref}
+use Rattle.lsa_region.specs.Ends.{same_ref, swapped_end}
+use Rattle.lsa_region.specs.calls.Ends.{swapped_ref}
 use Rattle.lsa_region.specs.calls.Ends.{end_by, IsSameShape}
 use Rattle.lsa_region.specs.Paired.{IsExchanged}
 use Rattle.lsa_region.specs.calls.Moves.{view_in, partly, IsCarrying, IsRenamedBy, IsRelieved, IsMovedTo}

@@ -17,7 +17,8 @@ use Rattle.lsa_region.specs.declared.end.Root.{Root}
 use Rattle.lsa_region.specs.declared.end.End.{End}
 use Rattle.lsa_region.specs.declared.end.End.TheVariants.{Obj, Slot}
 use Rattle.lsa_region.specs.Codes.{end_of}
-use Rattle.lsa_region.specs.Ends.{end_in_slot, swapped_end, slots_in, IsSlotMade}
+use Rattle.lsa_region.specs.Ends.{end_in_slot, swapped_end, slots_in}
+use Rattle.lsa_region.specs.calls.Ends.{IsSlotMade}
 use Rattle.lsa_region.specs.calls.Ends.{IsSlotDropped}
 use Rattle.lsa_region.specs.Layout.{Location}
 use Rattle.lsa_region.specs.Paired.{IsTied, IsParted, IsExchanged}

@@ -5,7 +5,7 @@ use Rattle.std.proofs.Math.Nat.{max-eq_left}
 use Rattle.std.proofs.Math.ListN.{set}
 use Rattle.std.proofs.lemmas.List.{length-set, get_or-set_same, get_or-set_other}
 use Rattle.lsa_region.specs.declared.end.End.{End}
-use Rattle.lsa_region.specs.Ends.{IsSlotMade}
+use Rattle.lsa_region.specs.calls.Ends.{IsSlotMade}
 use Rattle.lsa_region.specs.calls.Ends.{IsSlotDropped}
 use Rattle.lsa_region.proofs.Vacancies.{there, count-set}
 

@@ -19,7 +19,8 @@ use Rattle.lsa_store.specs.laws.Words.{object, word-there, word-none, word-same,
 use Rattle.lsa_store.specs.laws.Sums.{none-in, part-of-sum}
 use Rattle.lsa_region.specs.declared.end.End.{End}
 use Rattle.lsa_region.specs.declared.end.End.TheVariants.{Obj, Slot}
-use Rattle.lsa_region.specs.Ends.{slots_in, swapped_ref}
+use Rattle.lsa_region.specs.Ends.{slots_in}
+use Rattle.lsa_region.specs.calls.Ends.{swapped_ref}
 use Rattle.lsa_region.specs.calls.Ends.{end_by}
 use Rattle.lsa_region.specs.calls.Moves.{IsRenamedBy, IsMovedTo, IsSweeping}
 use Rattle.lsa_region.specs.Region.{View, body, link_of, IsEnd}

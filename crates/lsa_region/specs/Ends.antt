@@ -1,5 +1,5 @@
 -- Ends, and what each of them names.
-use Rattle.std.specs.Prelude.{◌≡◌, ◌≢◌, ℕ, ◌+◌, ◌<◌, Bool, false, ◌&&◌, nat_eq, max, List, [], ◌∷◌, length, slice_index_or, cond, count_by, is_some, Option, Some, None, IsSomeAnd}
+use Rattle.std.specs.Prelude.{◌≡◌, ℕ, ◌<◌, Bool, false, ◌&&◌, nat_eq, List, [], ◌∷◌, length, slice_index_or, cond, count_by, is_some, Option, Some, None, IsSomeAnd}
 use Rattle.lsa_kinds.specs.Kinds.{links_of}
 use Rattle.lsa_store.specs.Cells.{Cell}
 use Rattle.lsa_store.specs.declared.place.Ref.{Ref}
@@ -25,14 +25,6 @@ pub record SlotCounts : Type 0 where
 -- those of a list of root slots
 abbrev pub slots_in : List (Option (Option End)) → SlotCounts
 slots_in roots = record { there = count_by (λ s. is_some s) roots; bound = length roots }
-
--- the slot of this number was not there, and names nothing now; the bound rises only where each slot below it was there
-pub record IsSlotMade (old new : List (Option (Option End))) (n : ℕ) : Type 0 where
-  pub fresh : slice_index_or old n None ≡ None
-  pub here : slice_index_or new n None ≡ Some None
-  pub others : (m : ℕ) → m ≢ n → slice_index_or new m None ≡ slice_index_or old m None
-  pub there : (slots_in new).there ≡ (slots_in old).there + 1
-  pub bound : (slots_in new).bound ≡ max (slots_in old).bound ((slots_in old).there + 1)
 
 -- what an end names: a link of an object tells it by the number that stands in it
 abbrev pub named_in : List (List Cell) → List (Option (Option End)) → End → Option End
@@ -70,7 +62,3 @@ same_end (Slot root) (Slot other) = nat_eq root.number other.number
 -- a where it was b, b where it was a, and else the same
 abbrev pub swapped_end : End → End → End → End
 swapped_end a b e = cond (same_end e a) b (cond (same_end e b) a e)
-
--- r where it was q, q where it was r, and else the same
-abbrev pub swapped_ref : Ref → Ref → Ref → Ref
-swapped_ref r q x = cond (same_ref x r) q (cond (same_ref x q) r x)

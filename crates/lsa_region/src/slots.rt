@@ -1,7 +1,8 @@
 //! Root slots by number, of which some were dropped.
 ghost use Rattle.std.specs.Prelude.{◌≡◌, ◌^◌, ◌<◌, ◌≤◌, [], length, slice_index_or, slice_set, Option, Some, None, IfOk, OnErr};
 ghost use Rattle.lsa_region.specs.declared.end.End.{End as Named};
-ghost use Rattle.lsa_region.specs.Ends.{root_of, slots_in, IsSlotMade};
+ghost use Rattle.lsa_region.specs.Ends.{root_of, slots_in};
+ghost use Rattle.lsa_region.specs.calls.Ends.{IsSlotMade};
 ghost use Rattle.lsa_region.specs.calls.Ends.{IsSlotDropped};
 
 use crate::end::End;

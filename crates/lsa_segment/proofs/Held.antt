@@ -6,7 +6,8 @@ use Rattle.std.proofs.lemmas.Nat.{row_fits, mul-le}
 use Rattle.std.proofs.lemmas.List.{length-map, length-replicate, map-append, append_assoc, take_at, take_all, drop-append-le, drop-drop, drop-take, take-take, take-map, get_or-set_same, get_or-set_other, get_or-replicate, get_or_past, set-get_or, ext_get_or, length-take-le, get_or_read}
 use Rattle.circular_buffer.specs.Places.{somes}
 use Rattle.lsa_segment.specs.Bytes.{part, overwritten}
-use Rattle.lsa_segment.specs.Places.{written_places, used_places, used_bytes, AreLaid}
+use Rattle.lsa_segment.specs.Places.{used_places, used_bytes, AreLaid}
+use Rattle.lsa_segment.specs.calls.Places.{written_places}
 use Rattle.lsa_segment.proofs.Written.{some, somes-map, length-written, outside, middle-written, run-part, run-long}
 
 pub length-used_bytes : (size : ℕ) (used : List ℕ) (places : List (Option ℕ)) → length (used_bytes size used places) ≡ length used

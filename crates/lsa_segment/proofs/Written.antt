@@ -2,7 +2,7 @@
 use Rattle.std.proofs.Common.{◌≡◌, ℕ, ◌+◌, ◌-◌, ◌<◌, ◌≤◌, ◌⊎◌, inl, inr, List, [], ◌∷◌, ◌++◌, length, get_or, set, take, drop, map, Option, Some, None, refl, sym, ap, ◌∙◌, arith, length-append, length-take, length-drop}
 use Rattle.std.proofs.lemmas.List.{length-map, map-append, append_assoc, take-append-le, drop-append-le, take_at, drop_at, set_at, drop_more, take_more, drop-drop, drop-take, take-take, take-map, drop-map, length-take-le}
 use Rattle.circular_buffer.specs.Places.{somes, IsRun}
-use Rattle.lsa_segment.specs.Places.{written_places}
+use Rattle.lsa_segment.specs.calls.Places.{written_places}
 
 abbrev pub some : ℕ → Option ℕ
 some x = Some x

@@ -1,10 +1,6 @@
 -- The places of a block, each unset or a byte, in equal parts: the segments.
-use Rattle.std.specs.Prelude.{◌≡◌, ℕ, ◌+◌, ◌*◌, ◌≤◌, ◌^◌, List, [], ◌∷◌, ◌++◌, length, map, take, drop, slice_index_or, Option, Some}
+use Rattle.std.specs.Prelude.{◌≡◌, ℕ, ◌*◌, ◌≤◌, ◌^◌, List, [], ◌∷◌, length, map, take, drop, slice_index_or, Option, Some}
 use Rattle.circular_buffer.specs.Places.{somes}
-
--- the places with these bytes in as many of them, from the index on
-abbrev pub written_places : List (Option ℕ) → ℕ → List ℕ → List (Option ℕ)
-written_places places from bytes = take from places ++ (map Some bytes ++ drop (from + length bytes) places)
 
 -- the used places of segment n, where size is a segment's
 abbrev pub used_places : ℕ → List ℕ → List (Option ℕ) → ℕ → List (Option ℕ)

@@ -1,7 +1,7 @@
 //! A block of places for bytes, each unset until it is written. It goes back to its allocator when it is dropped.
 ghost use Rattle.std.specs.Prelude.{◌≡◌, ℕ, ◌+◌, ◌^◌, ◌<◌, ◌≤◌, ◌⊎◌, Some, None, length, map, take, drop, replicate, IfOk};
 ghost use Rattle.circular_buffer.specs.Places.{IsRun, somes};
-ghost use Rattle.lsa_segment.specs.Places.{written_places};
+ghost use Rattle.lsa_segment.specs.calls.Places.{written_places};
 
 use crate::raw::{Owned, Right, Start, allocate, deallocate};
 use std::alloc::{AllocError, Global};

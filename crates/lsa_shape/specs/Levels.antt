@@ -1,5 +1,5 @@
 -- Balanced trees: how deep, by the balance of each object.
-use Rattle.std.specs.Prelude.{◌≡◌, ◌⊎◌, ℕ, suc, ◌+◌, List, [], ◌∷◌}
+use Rattle.std.specs.Prelude.{◌≡◌, ◌⊎◌, ℕ, suc, List, [], ◌∷◌}
 use Rattle.lsa_path.specs.Ref.{Ref}
 use Rattle.lsa_shape.specs.declared.flank.Flank.{Flank}
 use Rattle.lsa_shape.specs.declared.flank.Flank.TheVariants.{Low}
@@ -20,8 +20,3 @@ IsLevel lean (Node l r t) depth = (near : ℕ) × (far : ℕ) × IsLevel lean l 
 abbrev pub IsLevelAround : (Ref → ℕ) → List Fork → ℕ → ℕ → Type 0
 IsLevelAround lean [] here depth = here ≡ depth
 IsLevelAround lean (ForkAt flank r beside ∷ way) here depth = (far : ℕ) × (above : ℕ) × IsLevel lean beside far × HasBalance flank (lean r) here far above × IsLevelAround lean way above depth
-
--- how many objects the tree has
-abbrev pub shape_size : TreeShape → ℕ
-shape_size Leaf = 0
-shape_size (Node l r t) = suc (shape_size l + shape_size t)

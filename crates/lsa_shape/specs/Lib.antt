@@ -4,6 +4,7 @@ pub mod Levels
 pub mod Readings
 pub mod Shapes
 pub mod Ways
+pub mod calls
 pub use Rattle.lsa_path.specs.Path
 pub use Rattle.lsa_path.specs.Roles
 pub use Rattle.lsa_path.specs.laws.Members

@@ -1,12 +1,12 @@
 -- A place in a tree: the way from there to the top.
-use Rattle.std.specs.Prelude.{◌≡◌, ◌⊎◌, List, [], ◌∷◌, ◌++◌}
+use Rattle.std.specs.Prelude.{List, [], ◌∷◌, ◌++◌}
 use Rattle.lsa_path.specs.Ref.{Ref}
 use Rattle.lsa_path.specs.End.{End}
 use Rattle.lsa_path.specs.End.TheVariants.{Obj}
 use Rattle.lsa_shape.specs.declared.flank.Flank.{Flank}
 use Rattle.lsa_shape.specs.declared.flank.Flank.TheVariants.{Low, High}
 use Rattle.lsa_shape.specs.Flanks.{near_link}
-use Rattle.lsa_shape.specs.Shapes.{TreeShape, inorder, IsIn, node_on}
+use Rattle.lsa_shape.specs.Shapes.{TreeShape, inorder, node_on}
 
 -- an object that the way passes: on which of its sides the place is, and what hangs on the other one
 pub data Fork : Type 0 where
@@ -41,8 +41,3 @@ way_before (fork ∷ way) = way_before way ++ fork_before fork
 abbrev pub way_behind : List Fork → List Ref
 way_behind [] = []
 way_behind (fork ∷ way) = fork_behind fork ++ way_behind way
-
--- the object is one of those around the place
-abbrev pub IsAround : Ref → List Fork → Type 0
-IsAround z [] = ⊥
-IsAround z (ForkAt flank r beside ∷ way) = (z ≡ r) ⊎ (IsIn z beside ⊎ IsAround z way)

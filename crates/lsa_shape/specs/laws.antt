@@ -5,3 +5,5 @@ pub mod Places
 pub mod Reading
 pub mod Rotations
 pub mod Sides
+pub mod Readings
+pub mod Ways

@@ -9,7 +9,8 @@ ghost use Rattle.lsa_shape.specs.declared.flank.Flank.{Flank};
 ghost use Rattle.lsa_shape.specs.Flanks.{near_link, far_link};
 ghost use Rattle.lsa_shape.specs.Shapes.{TreeShape, Node, inorder, IsIn, HangsAt, IsOff, IsClearOf, StaysBeyond, node_on, shape_by};
 ghost use Rattle.lsa_shape.specs.Ways.{Fork, plug, hole, way_before, way_behind};
-ghost use Rattle.lsa_shape.specs.Levels.{IsLevel, IsLevelAround, shape_size};
+ghost use Rattle.lsa_shape.specs.Levels.{IsLevel, IsLevelAround};
+ghost use Rattle.lsa_shape.specs.calls.Levels.{shape_size};
 ghost use Rattle.lsa_shape.specs.Readings.{LeadsUp, way_objects};
 
 /// The links determine which tree hangs at an end.

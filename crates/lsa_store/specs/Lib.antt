@@ -2,6 +2,7 @@ pub mod Objects
 pub mod Stock
 pub mod Stored
 pub mod laws
+pub mod calls
 pub use Rattle.lsa_yard.specs.Bytes
 pub use Rattle.lsa_yard.specs.Cells
 pub use Rattle.lsa_yard.specs.laws.Reading

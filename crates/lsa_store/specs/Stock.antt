@@ -1,5 +1,5 @@
 -- How much room the segments of a store have, and which of them is emptied next.
-use Rattle.std.specs.Prelude.{◌≡◌, ℕ, ◌+◌, ◌-◌, ◌*◌, ◌/◌, ◌<◌, ◌≤◌, ◌⊎◌, List, length, slice_set, Option, Some, None, nat_le, if◌then◌else◌}
+use Rattle.std.specs.Prelude.{◌≡◌, ℕ, ◌+◌, ◌-◌, ◌*◌, ◌/◌, ◌<◌, ◌≤◌, List, length, slice_set, Option, Some, None, nat_le, if◌then◌else◌}
 use Rattle.std.specs.Option.{option_and_then}
 use Rattle.lsa_pool.specs.declared.Usage.{Usage}
 use Rattle.lsa_pool.specs.declared.State.TheVariants.{Closed}
@@ -9,23 +9,9 @@ use Rattle.lsa_pool.specs.Room.{usage_of, free_count, live_sum, active_of, activ
 abbrev pub stock_of : ℕ → List Usage → ℕ
 stock_of size us = free_count us * (7 * size / 8) + (active_room size us - size / 8)
 
--- nothing was done, or the active segment, with too little room, was closed, and a free one is active
-abbrev pub IsTurned : ℕ → List Usage → List Usage → ℕ → Type 0
-IsTurned size old new need = (new ≡ old) ⊎ ((active_room size old < need) × (free_count new + 1 ≡ free_count old) × (active_room size new ≡ size))
-
 -- the closed segment with least live bytes, the first of such, if that is at most three quarters of a segment
 abbrev pub sparse_of : ℕ → List Usage → Option ℕ
 sparse_of size us = option_and_then (λ n. if nat_le (usage_of us n).live (3 * size / 4) then Some n else None) (sparsest_of us)
-
--- so many bytes of the active segment, n, are used and live now
-pub record IsCredited (size : ℕ) (old new : List Usage) (n bytes : ℕ) : Type 0 where
-  pub after : new ≡ slice_set old n (record (usage_of old n) { used = (usage_of old n).used + bytes; live = (usage_of old n).live + bytes })
-  pub budget : length new ≡ length old
-  pub was : active_of old ≡ Some n
-  pub active : active_of new ≡ Some n
-  pub free : free_count new ≡ free_count old
-  pub total : live_sum new ≡ live_sum old + bytes
-  pub room : active_room size new + bytes ≡ active_room size old
 
 -- so many bytes were taken for an object, perhaps of a segment that was free: closed ones hold what they held, and what may still be taken falls by no more than these bytes
 pub record IsTaken (size : ℕ) (old new : List Usage) (bytes : ℕ) : Type 0 where

@@ -6,7 +6,8 @@ ghost use Rattle.lsa_pool.specs.Account.{IsSound};
 ghost use Rattle.lsa_pool.specs.Room.{nothing, usage_of, free_count, live_sum, active_of, active_room, spare_of};
 ghost use Rattle.lsa_yard.specs.Cells.{size_of, extent, body_at, fresh, with_link, with_bytes, gap_of};
 ghost use Rattle.lsa_store.specs.Objects.{cells_of, cell_in, body_in, word_in, rounded_size, object_count, IsChangedIn, IsPutIn};
-ghost use Rattle.lsa_store.specs.Stock.{stock_of, sparse_of, IsTurned, IsCredited, IsTaken, IsGivenBack};
+ghost use Rattle.lsa_store.specs.Stock.{stock_of, sparse_of, IsTaken, IsGivenBack};
+ghost use Rattle.lsa_store.specs.calls.Stock.{IsTurned, IsCredited};
 
 use crate::place::Ref;
 use lsa_kinds::{Kind, links};

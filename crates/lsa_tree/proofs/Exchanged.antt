@@ -6,7 +6,7 @@ use Rattle.rc_position.specs.declared.positions.Pos.{Pos}
 use Rattle.lsa_region.specs.Ref.{Ref}
 use Rattle.lsa_region.specs.declared.end.End.{End}
 use Rattle.lsa_region.specs.declared.end.End.TheVariants.{Obj, Slot}
-use Rattle.lsa_region.specs.Ends.{swapped_ref}
+use Rattle.lsa_region.specs.calls.Ends.{swapped_ref}
 use Rattle.lsa_region.specs.Region.{View, body, link_of, IsWell}
 use Rattle.lsa_region.specs.laws.Refs.{refs_decided, swap-here, swap-there, swap-else}
 use Rattle.lsa_shape.specs.Members.{member-cases, member-first, member-later, member-here, map-split, once-split}

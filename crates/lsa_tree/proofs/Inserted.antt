@@ -11,7 +11,8 @@ use Rattle.lsa_region.specs.Region.{View, body, link_of, IsEnd, IsWell, SameObje
 use Rattle.lsa_shape.specs.Members.{member-cases, member-later, member-here}
 use Rattle.lsa_shape.specs.Paths.{same_object, same_field}
 use Rattle.lsa_shape.specs.Shapes.{Leaf, Node, IsIn, HangsAt, IsOff, StaysBeyond}
-use Rattle.lsa_shape.specs.Ways.{Fork, plug, hole, IsAround}
+use Rattle.lsa_shape.specs.Ways.{Fork, plug, hole}
+use Rattle.lsa_shape.specs.laws.Ways.{IsAround}
 use Rattle.lsa_shape.specs.laws.Depths.{around-kept}
 use Rattle.lsa_shape.specs.laws.Places.{IsAroundEnd, plug-changed, stays-out, plug-in, around-plug, hole-end, inorder-plug}
 use Rattle.lsa_tree.specs.declared.tree.Tree.{Tree}

@@ -10,7 +10,8 @@ use Rattle.lsa_shape.specs.declared.flank.Flank.{Flank}
 use Rattle.lsa_shape.specs.declared.flank.Flank.TheVariants.{Low, High}
 use Rattle.lsa_shape.specs.Flanks.{near_link, near_heavy, far_heavy}
 use Rattle.lsa_shape.specs.Shapes.{TreeShape, IsIn, HangsAt, IsClearOf, node_on}
-use Rattle.lsa_shape.specs.Ways.{plug, hole, IsAround}
+use Rattle.lsa_shape.specs.Ways.{plug, hole}
+use Rattle.lsa_shape.specs.laws.Ways.{IsAround}
 use Rattle.lsa_shape.specs.Levels.{HasBalance, IsLevel, IsLevelAround}
 use Rattle.lsa_shape.specs.laws.Depths.{level-node, node-level, level-kept, around-kept}
 use Rattle.lsa_shape.specs.laws.Places.{around-apart}

@@ -16,8 +16,9 @@ use Rattle.lsa_shape.specs.declared.flank.Flank.{Flank}
 use Rattle.lsa_shape.specs.declared.flank.Flank.TheVariants.{Low, High}
 use Rattle.lsa_shape.specs.Shapes.{TreeShape, Leaf, Node, inorder, IsIn, HangsAt, IsClearOf, node_on}
 use Rattle.lsa_shape.specs.Ways.{Fork, ForkAt, plug, hole, way_before, way_behind}
-use Rattle.lsa_shape.specs.Levels.{IsLevel, shape_size}
-use Rattle.lsa_shape.specs.Readings.{shape_at, steps_up}
+use Rattle.lsa_shape.specs.Levels.{IsLevel}
+use Rattle.lsa_shape.specs.calls.Levels.{shape_size}
+use Rattle.lsa_shape.specs.laws.Readings.{shape_at, steps_up}
 use Rattle.lsa_shape.specs.laws.Hanging.{in-listed, listed-in}
 use Rattle.lsa_shape.specs.laws.Places.{IsAroundEnd, at-hole, around-plug, hole-end, way-to, inorder-plug}
 use Rattle.lsa_shape.specs.laws.Depths.{plug-level, way-size, size-listed}

@@ -7,7 +7,7 @@ use Rattle.std.proofs.lemmas.List.Elements.{Contains-append_left, Contains-appen
 use Rattle.lsa_region.specs.Ref.{Ref}
 use Rattle.lsa_region.specs.declared.end.End.{End}
 use Rattle.lsa_region.specs.declared.end.End.TheVariants.{Obj}
-use Rattle.lsa_region.specs.Ends.{swapped_ref}
+use Rattle.lsa_region.specs.calls.Ends.{swapped_ref}
 use Rattle.lsa_region.specs.Region.{View, body, link_of, IsWell}
 use Rattle.lsa_region.specs.laws.Refs.{swap-here, swap-there, swap-else}
 use Rattle.lsa_shape.specs.Path.{entered_object}

@@ -14,8 +14,9 @@ use Rattle.lsa_shape.specs.Members.{member-here}
 use Rattle.lsa_shape.specs.declared.flank.Flank.TheVariants.{Low, High}
 use Rattle.lsa_shape.specs.Shapes.{TreeShape, Leaf, Node, inorder, HangsAt}
 use Rattle.lsa_shape.specs.Ways.{Fork, ForkAt, plug, hole, way_before, way_behind}
-use Rattle.lsa_shape.specs.Levels.{IsLevel, HasBalance, shape_size}
-use Rattle.lsa_shape.specs.Readings.{shape_at}
+use Rattle.lsa_shape.specs.Levels.{IsLevel, HasBalance}
+use Rattle.lsa_shape.specs.calls.Levels.{shape_size}
+use Rattle.lsa_shape.specs.laws.Readings.{shape_at}
 use Rattle.lsa_shape.specs.laws.Depths.{level-node, level-plug, level-size, way-short, size-listed, shallow, leans-less, leans-other}
 use Rattle.lsa_shape.specs.laws.Places.{inorder-plug}
 use Rattle.lsa_tree.specs.declared.tree.Tree.{Tree}

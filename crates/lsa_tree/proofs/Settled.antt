@@ -5,7 +5,7 @@ use Rattle.lsa_region.specs.declared.end.End.{End}
 use Rattle.lsa_region.specs.Region.{View, link_of, IsWell, IsSummed, live_bytes}
 use Rattle.lsa_shape.specs.Shapes.{TreeShape, IsIn}
 use Rattle.lsa_shape.specs.Ways.{Fork, hole}
-use Rattle.lsa_shape.specs.Readings.{steps_up}
+use Rattle.lsa_shape.specs.laws.Readings.{steps_up}
 use Rattle.lsa_tree.specs.Entries.{balance_of}
 use Rattle.lsa_tree.specs.calls.Placing.{IsPlaced, PlaceIn, IsTreeChanged, IsTipped, IsStepped, IsSettled}
 use Rattle.lsa_tree.proofs.Placed.{formed-up}

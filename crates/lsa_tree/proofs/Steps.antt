@@ -10,7 +10,8 @@ use Rattle.lsa_shape.specs.declared.flank.Flank.{Flank}
 use Rattle.lsa_shape.specs.declared.flank.Flank.TheVariants.{Low, High}
 use Rattle.lsa_shape.specs.Flanks.{other_flank, far_link, near_heavy, far_heavy}
 use Rattle.lsa_shape.specs.Shapes.{TreeShape, Node, inorder, IsIn, HangsAt, IsClearOf, node_on}
-use Rattle.lsa_shape.specs.Ways.{Fork, ForkAt, plug, hole, IsAround}
+use Rattle.lsa_shape.specs.Ways.{Fork, ForkAt, plug, hole}
+use Rattle.lsa_shape.specs.laws.Ways.{IsAround}
 use Rattle.lsa_shape.specs.Levels.{HasBalance, IsLevel, IsLevelAround}
 use Rattle.lsa_shape.specs.laws.Depths.{level-plug, node-level, level-kept, around-kept, level-root}
 use Rattle.lsa_shape.specs.laws.Places.{in-plug, plug-in, around-apart}

@@ -5,7 +5,8 @@ use Rattle.std.specs.Prelude.{Contains}
 use Rattle.lsa_region.specs.Ref.{Ref}
 use Rattle.lsa_region.specs.declared.end.End.{End}
 use Rattle.lsa_region.specs.declared.end.End.TheVariants.{Obj}
-use Rattle.lsa_region.specs.Ends.{swapped_end, swapped_ref}
+use Rattle.lsa_region.specs.Ends.{swapped_end}
+use Rattle.lsa_region.specs.calls.Ends.{swapped_ref}
 use Rattle.lsa_region.specs.Paired.{IsExchanged}
 use Rattle.lsa_region.specs.Region.{View, link_of, SameObjects}
 use Rattle.lsa_region.specs.laws.Exchanges.{swap-first, swap-second, swap-other, at_end, swap_twice}

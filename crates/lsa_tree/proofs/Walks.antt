@@ -12,8 +12,9 @@ use Rattle.lsa_shape.specs.declared.flank.Flank.TheVariants.{Low, High}
 use Rattle.lsa_shape.specs.Flanks.{other_flank, near_link}
 use Rattle.lsa_shape.specs.Shapes.{TreeShape, Leaf, Node, inorder, HangsAt, node_on}
 use Rattle.lsa_shape.specs.Ways.{Fork, ForkAt, plug, hole, way_before, way_behind}
-use Rattle.lsa_shape.specs.Levels.{IsLevel, shape_size}
-use Rattle.lsa_shape.specs.Readings.{shape_at, steps_up, one_more}
+use Rattle.lsa_shape.specs.Levels.{IsLevel}
+use Rattle.lsa_shape.specs.calls.Levels.{shape_size}
+use Rattle.lsa_shape.specs.laws.Readings.{shape_at, steps_up, one_more}
 use Rattle.lsa_shape.specs.laws.Depths.{level-node}
 use Rattle.lsa_shape.specs.laws.Places.{in-plug, way-to}
 use Rattle.lsa_shape.specs.laws.Sides.{hangs-node}

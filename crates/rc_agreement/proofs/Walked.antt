@@ -24,7 +24,8 @@ use Rattle.rc_stream.specs.Snapshot.{There}
 use Rattle.rc_cursor.specs.Snapshots.{IsKnownAs}
 use Rattle.rc_snapshots.specs.Streams.{first_position}
 use Rattle.rc_agreement.specs.declared.gaps.GapBehind.{GapBehind}
-use Rattle.rc_agreement.specs.Agreement.{IsGapSaid, IsPlaceSaid}
+use Rattle.rc_agreement.specs.Agreement.{IsGapSaid}
+use Rattle.rc_agreement.specs.calls.Agreement.{IsPlaceSaid}
 use Rattle.rc_agreement.specs.calls.Gaps.{IsGapSeen}
 use Rattle.rc_agreement.specs.calls.Passing.{first_row_at, first_tomb_at, is_even_to, is_rowless_to, rows_behind}
 use Rattle.rc_agreement.specs.calls.Walking.{AllSaid, AreSaid, IsOnward}

@@ -1,5 +1,4 @@
 -- Whether versions agree with writes: what they know is what the writes say.
---     IsPlaceSaid    what is known at a position is what writes say there
 --     IsGapSaid      so is the range tombstone over an open gap that is known
 --     AgreesWith     so it is everywhere, of the static row, and of the partition tombstone
 use Rattle.std.specs.Prelude.{◌≡◌, IsTrue, List}
@@ -12,13 +11,8 @@ use Rattle.rc_core.specs.declared.entries.ChainKind.{ChainKind}
 use Rattle.rc_core.specs.Version.{Behind, Version, end_position}
 use Rattle.rc_memory.specs.Memory.{Memory}
 use Rattle.rc_chain.specs.declared.chains.Snap.{Snap}
-use Rattle.rc_stream.specs.Snapshot.{SayThere, There}
-use Rattle.rc_cursor.specs.Snapshots.{IsKnownAs, kind_seen, versions_seen}
+use Rattle.rc_cursor.specs.Snapshots.{kind_seen, versions_seen}
 use Rattle.rc_snapshots.specs.Fillers.{AreKnownOf}
-
--- what is known at a position is what writes say there
-abbrev pub IsPlaceSaid : ChainKind → List Version → List Mutation → Pos → Type 0
-IsPlaceSaid kind versions writes x = (v : There) → IsKnownAs kind versions x v → SayThere writes x v
 
 -- where the open gap right behind a position is known, its range tombstone is the one that writes have at the position
 abbrev pub IsGapSaid : ChainKind → List Version → List Mutation → Pos → Type 0

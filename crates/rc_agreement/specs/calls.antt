@@ -2,3 +2,4 @@
 pub mod Gaps
 pub mod Passing
 pub mod Walking
+pub mod Agreement

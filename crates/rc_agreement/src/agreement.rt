@@ -10,7 +10,8 @@ ghost use Rattle.rc_memory.specs.Memory.{HasPin};
 ghost use Rattle.rc_reading.specs.Reading.{IsRowGiven};
 ghost use Rattle.rc_cursor.specs.Snapshots.{kind_seen, versions_seen};
 ghost use Rattle.rc_mutation.specs.declared.mutations.Mutation.{Mutation as Change};
-ghost use Rattle.rc_agreement.specs.Agreement.{IsPlaceSaid, SnapshotAgrees};
+ghost use Rattle.rc_agreement.specs.Agreement.{SnapshotAgrees};
+ghost use Rattle.rc_agreement.specs.calls.Agreement.{IsPlaceSaid};
 ghost use Rattle.rc_agreement.specs.calls.Passing.{first_row_at, first_tomb_at, is_even_to, is_rowless_to, rows_behind};
 ghost use Rattle.rc_agreement.specs.calls.Walking.{AllSaid, AreSaid, IsOnward};
 

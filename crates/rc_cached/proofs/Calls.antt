@@ -22,7 +22,7 @@ use Rattle.rc_cached.specs.declared.readings.Readings.{Readings}
 use Rattle.rc_cached.specs.declared.underlying.Underlying.{Underlying}
 use Rattle.rc_cached.specs.Fillers.{IsStreamFill}
 use Rattle.rc_cached.specs.Leaving.{LeavesChains}
-use Rattle.rc_cached.specs.Parts.{of_its_filler, of_snapshot, of_underlying}
+use Rattle.rc_cached.specs.calls.Parts.{of_its_filler, of_snapshot, of_underlying}
 use Rattle.rc_cached.specs.Streams.{IsOfCached, OfCache}
 
 -- ---- what is left of the chains

@@ -29,7 +29,7 @@ use Rattle.rc_snapshots.specs.Streams.{first_position, from_start}
 use Rattle.rc_cached.specs.declared.readings.Readings.{Readings}
 use Rattle.rc_cached.specs.declared.underlying.Underlying.{Underlying}
 use Rattle.rc_cached.specs.Below.{LiesBelow, MayLieUnread, nothing_read}
-use Rattle.rc_cached.specs.Parts.{of_snapshot}
+use Rattle.rc_cached.specs.calls.Parts.{of_snapshot}
 use Rattle.rc_cached.specs.Streams.{IsNewCached, IsOfCached, IsReadOf, IsRestOf, OfCache, SayBelow, SaysFrom, StillSays, filler_for, read_below}
 use Rattle.rc_cached.proofs.Unread.{first-reaches, fits-whole, marked, may-marked}
 

@@ -25,7 +25,7 @@ use Rattle.rc_cached.specs.declared.fillers.StreamFiller.{StreamFiller}
 use Rattle.rc_cached.specs.declared.readings.Readings.{Readings}
 use Rattle.rc_cached.specs.declared.underlying.Underlying.{Underlying}
 use Rattle.rc_cached.specs.Fillers.{IsStreamFill}
-use Rattle.rc_cached.specs.Parts.{of_its_filler, of_snapshot, of_underlying}
+use Rattle.rc_cached.specs.calls.Parts.{of_its_filler, of_snapshot, of_underlying}
 use Rattle.rc_cached.specs.Streams.{filler_for}
 
 -- what a snapshot knows that stands for writes, and what a fill leaves of it

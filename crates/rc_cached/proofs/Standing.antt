@@ -20,7 +20,7 @@ use Rattle.rc_filler.specs.Fillers.{IsFillerReady}
 use Rattle.rc_filler.specs.Stands.{StandsForWrites}
 use Rattle.rc_cached.specs.declared.readings.Readings.{Readings}
 use Rattle.rc_cached.specs.Below.{LiesBelow}
-use Rattle.rc_cached.specs.Parts.{of_its_filler, of_snapshot, of_underlying}
+use Rattle.rc_cached.specs.calls.Parts.{of_its_filler, of_snapshot, of_underlying}
 use Rattle.rc_cached.specs.Streams.{IsOfCached, IsRestOf, OfCache, SaysFrom, StillSays, filler_for, read_below}
 use Rattle.rc_cached.proofs.Sharing.{KnownLaws, fit-of, pair, shares}
 use Rattle.rc_cached.proofs.Unread.{marked, may-marked, may-say, no-one-thing}

@@ -22,7 +22,7 @@ use Rattle.rc_filler.specs.Stands.{StandsForWrites}
 use Rattle.rc_cached.specs.declared.fillers.StreamFiller.{StreamFiller}
 use Rattle.rc_cached.specs.declared.readings.Readings.{Readings}
 use Rattle.rc_cached.specs.Below.{LiesBelow}
-use Rattle.rc_cached.specs.Parts.{of_its_filler, of_snapshot, of_underlying}
+use Rattle.rc_cached.specs.calls.Parts.{of_its_filler, of_snapshot, of_underlying}
 use Rattle.rc_cached.specs.Streams.{IsOfCached, IsRestOf, OfCache, SaysFrom, StillKnows, StillSays, filler_for, read_below}
 use Rattle.rc_cached.proofs.Sharing.{KnownLaws, fit-of, head_seen, is-head-seen, pair, shares}
 use Rattle.rc_cached.proofs.Standing.{is-with, reads-of, sees-of, with_snap}

@@ -1,8 +1,8 @@
 pub mod Below
 pub mod Fillers
 pub mod Leaving
-pub mod Parts
 pub mod Streams
+pub mod calls
 pub use Rattle.rc_filler.specs.Fills
 pub use Rattle.rc_filler.specs.Stands
 pub use Rattle.rc_filler.specs.declared.fillers.CacheFiller

@@ -1,5 +1,5 @@
 -- What `greatest` gives in a total order in which only equal values tie.
-use Rattle.std.specs.Prelude.{Bool, true, false, List, [], ◌∷◌, Option, Some, None, cond}
+use Rattle.std.specs.Prelude.{Option, Some, None, cond}
 use Rattle.std.specs.declared.cmp.Ordering.{Ordering}
 use Rattle.std.specs.Ordering.{is_lt}
 
@@ -8,8 +8,3 @@ abbrev pub greater : {K : Type 0} → (K → K → Ordering) → Option K → Op
 greater R None y = y
 greater R (Some x) None = Some x
 greater R (Some x) (Some y) = Some (cond (is_lt (R x y)) y x)
-
--- the list is empty
-abbrev pub is_nil : {K : Type 0} → List K → Bool
-is_nil [] = true
-is_nil (x ∷ xs) = false

@@ -1,5 +1,5 @@
 -- Which write wins: the reconciliation that Cassandra and ScyllaDB share. This is the one place where its rules stand.
-use Rattle.std.specs.Prelude.{ℕ, ℤ, Bool, true, false, not, ◌&&◌, ◌||◌, ◌==◌, nat_lt, int_lt, List, [], ◌∷◌, Option, Some, None, IsTrue, ◌≡◌, map as list_map}
+use Rattle.std.specs.Prelude.{ℕ, ℤ, Bool, true, false, not, ◌&&◌, ◌||◌, ◌==◌, nat_lt, int_lt, List, [], ◌∷◌, Option, Some, None, IsTrue, map as list_map}
 use Rattle.std.specs.declared.cmp.Ordering.{Ordering}
 use Rattle.std.specs.Ordering.{nat_cmp, int_cmp, int_eq, is_gt}
 use Rattle.std.specs.Option.{option_map}
@@ -63,10 +63,6 @@ all_cells rows = flat_map (λ row. row.cells) rows
 abbrev pub at_column : ℕ → List (ℕ × Cell) → List Cell
 at_column column cells = list_map (λ e. e.1) (filter (λ e. column == e.0) cells)
 
--- the cells that the rows have in the column
-abbrev pub cells_at : ℕ → List Row → List Cell
-cells_at column rows = at_column column (all_cells rows)
-
 -- the columns that have a cell, ascending, each once
 abbrev pub columns : List (ℕ × Cell) → List ℕ
 columns cells = map.keys (map.from_entries {R = nat_cmp} cells)
@@ -90,7 +86,3 @@ empty_row = record { marker = None; tomb = None; cells = [] }
 -- a row whose cells strictly ascend by column, as those of every value of the type do
 abbrev pub IsRow : Row → Type 0
 IsRow row = IsTrue (ascending row.cells)
-
--- a row says no more than another: joined to it, it changes nothing
-abbrev pub SaysNoMore : Row → Row → Type 0
-SaysNoMore row other = joined_row (row ∷ other ∷ []) ≡ other

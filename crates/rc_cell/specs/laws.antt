@@ -19,7 +19,8 @@ use Rattle.rc_cell.specs.declared.writes.Cell.{Cell}
 use Rattle.rc_cell.specs.declared.writes.Tomb.{Tomb}
 use Rattle.rc_cell.specs.declared.rows.Row.{Row}
 use Rattle.rc_cell.specs.Orders.{tomb_cmp, tomb_cmp_total}
-use Rattle.rc_cell.specs.Winner.{greatest, markers, tombs, all_cells, cells_at, at_column, winner, winners, joined_row, empty_row, IsRow, SaysNoMore}
+use Rattle.rc_cell.specs.Winner.{greatest, markers, tombs, all_cells, at_column, winner, winners, joined_row, empty_row, IsRow}
+use Rattle.rc_cell.specs.laws.Winner.{cells_at, SaysNoMore}
 use Rattle.rc_cell.specs.laws.Greatest.{greatest-none, greatest-append, greatest-swap, greatest-twice, greatest-one}
 use Rattle.rc_cell.specs.laws.Beats.{tomb_cmp-IsAntisymmetric}
 use Rattle.rc_cell.specs.laws.ByColumn.{ascending-winners, at_column-winners, find-winners, winners-append, winners-swap, winners-twice, winners-ascending}
@@ -146,3 +147,4 @@ SaysNoMore-joined_row r q g h = sym (joined_row-assoc r r q g h) ∙ ap (λ x. j
 
 pub joined_row-SaysNoMore : (r q p : Row) → IsRow r → IsRow p → SaysNoMore r p → SaysNoMore q p → SaysNoMore (joined_row (r ∷ q ∷ [])) p
 joined_row-SaysNoMore r q p g h e f = joined_row-assoc r q p g h ∙ ap (λ x. joined_row (r ∷ x ∷ [])) f ∙ e
+pub mod Winner

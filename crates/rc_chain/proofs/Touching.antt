@@ -21,7 +21,7 @@ use Rattle.rc_memory.specs.Kept.{HoldMemory, IsSoundChain}
 use Rattle.rc_memory.specs.laws.Listing.{listed-decided}
 use Rattle.rc_memory.specs.laws.Places.{tails, heads}
 use Rattle.rc_memory.specs.laws.Still.{still-itself, still-then}
-use Rattle.rc_recency.specs.Holding.{IsFoundAt}
+use Rattle.rc_recency.specs.calls.Holding.{IsFoundAt}
 use Rattle.rc_recency.specs.laws.Held.{entry-found, standing-as, stands}
 use Rattle.rc_chain.specs.Lives.{IsAtUpTo, IsRemainder, IsTouched}
 use Rattle.rc_chain.proofs.Bare.{some-chain}

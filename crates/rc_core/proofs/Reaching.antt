@@ -12,7 +12,8 @@ use Rattle.rc_core.specs.declared.entries.Entry.{Entry}
 use Rattle.rc_core.specs.declared.slow.PlainVersion.{PlainVersion}
 use Rattle.rc_core.specs.Slow.{plain}
 use Rattle.rc_core.specs.Version.{Version, end_position}
-use Rattle.rc_core.specs.Parts.{IsClear, IsNearer, IsReach}
+use Rattle.rc_core.specs.Parts.{IsClear, IsReach}
+use Rattle.rc_core.specs.calls.Parts.{IsNearer}
 use Rattle.rc_core.specs.AtPlace.{HasEntryAt}
 use Rattle.rc_core.proofs.Parting.{never}
 

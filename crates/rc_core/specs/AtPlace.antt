@@ -3,15 +3,13 @@
 --     HasItsPlace      where the place is clustered an entry stands at it; behind the place none stands but the end dummy
 --     IsAtPlace        both
 use Rattle.std.specs.Prelude.{◌≡◌, ◌⊎◌, List, [], ◌∷◌, None}
-use Rattle.std.specs.declared.cmp.Ordering.{Ordering}
-use Rattle.std.specs.declared.cmp.Ordering.TheVariants.{Less, Equal, Greater}
+use Rattle.std.specs.declared.cmp.Ordering.TheVariants.{Less}
 use Rattle.rc_position.specs.declared.positions.Pos.{Pos}
-use Rattle.rc_position.specs.Position.{Place, Head, Static, Clustered, End, place_cmp, pos_cmp}
+use Rattle.rc_position.specs.Position.{Place, Head, Static, Clustered, End, place_cmp}
 use Rattle.rc_core.specs.declared.entries.Entry.{Entry}
 use Rattle.rc_core.specs.SpotState.{silent}
 use Rattle.rc_core.specs.Version.{Spot, Version, state_at, static_state, end_position}
 use Rattle.rc_core.specs.Change.{position_of}
-use Rattle.rc_core.specs.Plain.{no_mark}
 
 -- what holds of each entry
 abbrev pub EachEntry : (Entry → Type 0) → List Entry → Type 0
@@ -49,17 +47,3 @@ pub record HasItsPlace (p : Place) (entries : List Entry) : Type 0 where
 pub record IsAtPlace (p : Place) (v : Version) : Type 0 where
   pub silent : IsSilentFrom p v
   pub place : HasItsPlace p v.entries
-
--- an entry says nothing at its own position
-abbrev pub SaysNothingAt : Entry → Type 0
-SaysNothingAt e = (e.at ≡ no_mark) × (e.row ≡ None)
-
--- by where an entry stands against the place: at it and behind it nothing is said, and behind it stands the end dummy alone
-abbrev pub FitsBy : Ordering → Entry → Type 0
-FitsBy Less e = Unit {0}
-FitsBy Equal e = SaysNothingAt e
-FitsBy Greater e = SaysNothingAt e × (e.gap ≡ no_mark) × (e.position ≡ end_position)
-
--- an entry as it may stand in a version at a place that is clustered
-abbrev pub FitsPlace : Pos → Entry → Type 0
-FitsPlace p e = FitsBy (pos_cmp e.position p) e

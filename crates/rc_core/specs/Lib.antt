@@ -14,3 +14,4 @@ pub mod Parts
 pub mod StandsFor
 pub mod Slow
 pub mod laws
+pub mod calls

@@ -28,13 +28,6 @@ pub record IsReach (versions : List Version) (x upto to : Pos) : Type 0 where
   pub clear : EachOf (λ v. IsClear x to v.entries) versions
   pub stops : (to ≡ upto) ⊎ SomeHasEntryAt to versions
 
--- the same by the entries of one version, where the gap ends at `to` at the latest
-pub record IsNearer (x to found : Pos) (entries : List Entry) : Type 0 where
-  pub ahead : IsBefore x found
-  pub within : (found ≡ to) ⊎ IsBefore found to
-  pub clear : IsClear x found entries
-  pub stops : (found ≡ to) ⊎ HasEntryAt found entries
-
 -- the first part from x on, up to a bound
 abbrev pub IsFirstPart : ChainKind → List Version → Pos → Pos → Part → Type 0
 IsFirstPart kind versions x upto (Row key row tomb) = IsBefore x upto × IsKnown kind versions x × (IsBare versions x → ⊥) × (key ≡ x.prefix) × (content (states_at (On x) versions) ≡ (row, tomb))

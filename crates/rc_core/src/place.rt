@@ -2,7 +2,8 @@
 
 ghost use Rattle.std.specs.Prelude.{◌≡◌, ◌↔◌, ◌∷◌, [], IsTrue, None};
 ghost use Rattle.rc_position.specs.Position.{Clustered};
-ghost use Rattle.rc_core.specs.AtPlace.{EachEntry, FitsPlace, HasEntryAt, IsAtPlace, SaysNothingAt};
+ghost use Rattle.rc_core.specs.AtPlace.{EachEntry, HasEntryAt, IsAtPlace};
+ghost use Rattle.rc_core.specs.calls.AtPlace.{FitsPlace, SaysNothingAt};
 ghost use Rattle.rc_core.specs.Plain.{no_mark};
 ghost use Rattle.rc_core.specs.Slow.{plain};
 ghost use Rattle.rc_core.specs.Version.{Ascend, end_position};

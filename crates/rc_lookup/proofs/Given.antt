@@ -20,7 +20,8 @@ use Rattle.rc_memory.specs.Recency.{HasObject, IsRecency, MayBeListed}
 use Rattle.rc_memory.specs.laws.At.{number-low}
 use Rattle.rc_core.specs.AtPlace.{HasEntryAt}
 use Rattle.rc_version.specs.Versions.{IsEntryFound}
-use Rattle.rc_lookup.specs.Touched.{AreRecent, AreTouched, IsLineOf, IsReordered, IsEntryOfRow}
+use Rattle.rc_lookup.specs.Touched.{AreRecent, AreTouched, IsLineOf, IsEntryOfRow}
+use Rattle.rc_lookup.specs.calls.Touched.{IsReordered}
 use Rattle.rc_lookup.specs.calls.Recent.{IsTurnedAlone}
 use Rattle.rc_schema.specs.SchemaValue.{SchemaValue}
 use Rattle.rc_row_cache.specs.Entries.{AreEntries}

@@ -29,7 +29,8 @@ use Rattle.rc_snapshots.specs.Seeing.{StillSees}
 use Rattle.rc_row_cache.specs.Saying.{Below, phase_pinned}
 use Rattle.rc_core.specs.Version.{Version}
 use Rattle.rc_row_cache.specs.Footprint.{AreInUse}
-use Rattle.rc_lookup.specs.Known.{IsChainKnown, IsPartitionKnown, IsSnapKnown}
+use Rattle.rc_lookup.specs.Known.{IsChainKnown, IsPartitionKnown}
+use Rattle.rc_lookup.specs.calls.Known.{IsSnapKnown}
 use Rattle.rc_lookup.specs.Looked.{IsPartitionFound, IsLookedUp, IsStreamSaying, IsUnread}
 use Rattle.rc_lookup.specs.Staying.{IsStillThere}
 use Rattle.rc_lookup.specs.calls.Reading.{IsHeadSaid, without_snap}

@@ -15,7 +15,7 @@ use Rattle.rc_row_cache.specs.Crowding.{LosesWhereCrowded, version_count, versio
 use Rattle.rc_row_cache.specs.Crowds.{loses-after, loses-nothing, loses-same, sum-on}
 use Rattle.rc_row_cache.specs.Detached.{IsDetached}
 use Rattle.rc_row_cache.specs.laws.Losing.{loses-on, loses-taken}
-use Rattle.rc_lookup.specs.Touched.{IsReordered}
+use Rattle.rc_lookup.specs.calls.Touched.{IsReordered}
 use Rattle.rc_lookup.specs.calls.Reading.{without_snap}
 use Rattle.rc_lookup.proofs.Swept.{IsSweptThen, back-there, left_chain}
 

@@ -7,7 +7,8 @@ use Rattle.lsa_path.specs.laws.Steps.{objects-trans}
 use Rattle.lsa_region.specs.Region.{SameObjects}
 use Rattle.rc_memory.specs.Lists.{elem-first, elem-here, elem-later, elem-left, elem-none, elem-pushed, elem-replaced, elem-split, elem-still, once-beside}
 use Rattle.rc_memory.specs.Memory.{Member, Memory, listed_as}
-use Rattle.rc_lookup.specs.Touched.{IsChainTouched, is_beside}
+use Rattle.rc_lookup.specs.Touched.{is_beside}
+use Rattle.rc_lookup.specs.calls.Touched.{IsChainTouched}
 use Rattle.rc_lookup.specs.calls.Recent.{IsOfVersionOrNewer, IsRaising, IsTurnedAlone}
 
 -- ---- the objects of other chains

@@ -13,7 +13,8 @@ use Rattle.rc_snapshots.specs.Seeing.{StillSees}
 use Rattle.rc_row_cache.specs.Footprint.{HaveOneVersion, memtable_bytes}
 use Rattle.rc_lookup.specs.Looked.{IsLookedUp, IsUnread}
 use Rattle.rc_lookup.specs.Rest.{LeavesRest}
-use Rattle.rc_lookup.specs.Touched.{IsChainTouched, IsMadeRecent, IsReordered, is_beside}
+use Rattle.rc_lookup.specs.Touched.{IsMadeRecent, is_beside}
+use Rattle.rc_lookup.specs.calls.Touched.{IsChainTouched, IsReordered}
 use Rattle.rc_lookup.proofs.Kept.{here-or-beside, unchanged}
 
 -- ---- the members

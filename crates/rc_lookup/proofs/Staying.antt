@@ -16,7 +16,7 @@ use Rattle.rc_stream.specs.Snapshot.{NoneLost, most_counted}
 use Rattle.rc_lookup.specs.Rest.{LeavesRest}
 use Rattle.rc_lookup.specs.Staying.{IsEntryStill, IsStillThere}
 use Rattle.rc_lookup.specs.laws.Staying.{still-cached, still-same, still-then}
-use Rattle.rc_lookup.specs.Touched.{IsReordered}
+use Rattle.rc_lookup.specs.calls.Touched.{IsReordered}
 use Rattle.rc_lookup.proofs.Counted.{room-leaves}
 use Rattle.rc_lookup.proofs.Entered.{entered-beside, entered-counts}
 use Rattle.rc_lookup.proofs.Fills.{between}

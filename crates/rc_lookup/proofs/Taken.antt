@@ -12,7 +12,7 @@ use Rattle.rc_cached.specs.Stands.{StandsForWrites}
 use Rattle.rc_cached.specs.declared.fillers.StreamFiller.{StreamFiller}
 use Rattle.rc_row_cache.specs.Fillers.{FillerKnows, FillerKnowsStatics, IsFillerReady, losses}
 use Rattle.rc_lookup.specs.calls.Filling.{IsFilledBy}
-use Rattle.rc_cached.specs.Parts.{of_its_filler}
+use Rattle.rc_cached.specs.calls.Parts.{of_its_filler}
 use Rattle.rc_lookup.proofs.Fills.{filled-one}
 
 no_less : (a b c d : ℕ) → a ≤ b → c ≤ d → a + c ≤ b + d

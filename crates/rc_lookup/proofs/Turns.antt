@@ -25,7 +25,7 @@ use Rattle.rc_row_cache.specs.Footprint.{AreInUse, HaveOneVersion, memtable_byte
 use Rattle.rc_lookup.specs.Rest.{LeavesRest}
 use Rattle.rc_lookup.specs.calls.Entering.{IsFilledThrough, KnowsStaticRow}
 use Rattle.rc_lookup.specs.calls.Filling.{OneFill}
-use Rattle.rc_cached.specs.Parts.{of_its_filler}
+use Rattle.rc_cached.specs.calls.Parts.{of_its_filler}
 use Rattle.rc_lookup.specs.laws.Lost.{raised-low, raised-top}
 use Rattle.rc_lookup.proofs.Counted.{filled-losses, room-leaves, room-none, room-raised, room-range, skip-losses}
 use Rattle.rc_lookup.proofs.Fills.{between, many-many}

@@ -1,8 +1,6 @@
 -- How what is read of the cache becomes the most recent of its recency list.
 --     is_beside       a place is of another chain
 --     IsMadeRecent    the objects of a chain are the most recent ones
---     IsChainTouched  so they are, and nothing else changed
---     IsReordered     the recency list has its members in some order, and nothing else changed
 --     IsEntryOfRow, IsLineOf, IsEntryOfGiven    a place is that of a row's entry, or of one of several
 --     AreRecent       the objects at some places are the most recent ones
 --     AreTouched      so they are, and nothing else changed
@@ -25,18 +23,6 @@ pub record IsMadeRecent (id : ℕ) (old new : List Member) : Type 0 where
   pub split : new ≡ filter (is_beside id) old ++ own
   pub mine : (w : Member) → Contains own w → (w.chain ≡ id) × Contains old w
   pub all : (w : Member) → Contains old w → w.chain ≡ id → Contains own w
-
--- so they are; the chains, the numbers to be told and the counts are as they were, and no object moved, came or went
-pub record IsChainTouched (id : ℕ) (old new : Memory) : Type 0 where
-  pub recency : IsMadeRecent id old.recency new.recency
-  pub same : new ≡ listed_as new.recency new.region old
-  pub objects : SameObjects old.region new.region
-
--- the recency list has the members that it had, in some order; all else is as it was
-pub record IsReordered (old new : Memory) : Type 0 where
-  pub kept : (w : Member) → Contains old.recency w → Contains new.recency w
-  pub same : new ≡ listed_as new.recency new.region old
-  pub objects : SameObjects old.region new.region
 
 -- a place is that of the entry of a row, in a chain
 abbrev pub IsEntryOfRow : ℕ → List Comp → Member → Type 0

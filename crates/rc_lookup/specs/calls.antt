@@ -4,3 +4,5 @@ pub mod Filling
 pub mod Reading
 pub mod Recent
 pub mod Words
+pub mod Known
+pub mod Touched

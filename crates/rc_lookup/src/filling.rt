@@ -16,7 +16,7 @@ ghost use Rattle.rc_snapshots.specs.Streams.{first_position};
 ghost use Rattle.rc_row_cache.specs.Crowding.{LosesWhereCrowded};
 ghost use Rattle.rc_row_cache.specs.Fillers.{FillerKnows, IsFillerReady, losses};
 ghost use Rattle.rc_lookup.specs.calls.Filling.{FragmentsFit, IsFilledBy, IsFit, IsNotEmptyRow, NoEmptyRows, SaysAll, SaysNone, SaysUpToFragment, past};
-ghost use Rattle.rc_cached.specs.Parts.{of_its_filler};
+ghost use Rattle.rc_cached.specs.calls.Parts.{of_its_filler};
 
 use crate::places::bare;
 use rc_cached::StreamFiller;

@@ -9,7 +9,7 @@ ghost use Rattle.rc_cursor.specs.Snapshots.{IsHeadSeen, IsReadable, Knows};
 ghost use Rattle.rc_cacheread.specs.Passing.{IsKnownOver};
 ghost use Rattle.rc_cached.specs.Stands.{StandsForWrites};
 ghost use Rattle.rc_snapshots.specs.Streams.{first_position};
-ghost use Rattle.rc_lookup.specs.Known.{IsSnapKnown};
+ghost use Rattle.rc_lookup.specs.calls.Known.{IsSnapKnown};
 ghost use Rattle.rc_lookup.specs.calls.Reading.{IsHeadSaid};
 
 use crate::places::bare;

@@ -15,10 +15,12 @@ ghost use Rattle.rc_snapshots.specs.Streams.{first_position};
 ghost use Rattle.rc_cached.specs.Below.{nothing_read};
 ghost use Rattle.rc_cached.specs.Streams.{IsOfCached};
 ghost use Rattle.rc_row_cache.specs.Saying.{Below, CacheSays};
-ghost use Rattle.rc_lookup.specs.Known.{IsChainKnown, IsSnapKnown};
+ghost use Rattle.rc_lookup.specs.Known.{IsChainKnown};
+ghost use Rattle.rc_lookup.specs.calls.Known.{IsSnapKnown};
 ghost use Rattle.rc_lookup.specs.Rest.{LeavesRest};
 ghost use Rattle.rc_lookup.specs.Staying.{IsEntryStill};
-ghost use Rattle.rc_lookup.specs.Touched.{IsMadeRecent, IsReordered};
+ghost use Rattle.rc_lookup.specs.Touched.{IsMadeRecent};
+ghost use Rattle.rc_lookup.specs.calls.Touched.{IsReordered};
 ghost use Rattle.rc_lookup.specs.Looked.{IsCacheOver, IsPartitionFound, IsLookedUp, IsStreamSaying, IsUnread};
 ghost use Rattle.rc_lookup.specs.calls.Reading.{AllClustered, IsHeadSaid, IsPassable, without_snap};
 

@@ -1,7 +1,7 @@
 //! What is read becomes the most recent.
 ghost use Rattle.std.specs.Prelude.{◌+◌};
 ghost use Rattle.rc_memory.specs.Memory.{HasChain, HasVersion, IsMemberObject, Member, Memory};
-ghost use Rattle.rc_lookup.specs.Touched.{IsChainTouched};
+ghost use Rattle.rc_lookup.specs.calls.Touched.{IsChainTouched};
 ghost use Rattle.rc_lookup.specs.calls.Recent.{IsEntryOfVersionOrNewer, IsOfVersionOrNewer, IsRaising, IsTurnedAlone};
 
 use lsa_region::{End, Ref};

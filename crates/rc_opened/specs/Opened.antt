@@ -1,25 +1,22 @@
 -- What is left to an open reader over the chains that its snapshots are of.
 --     AreChangesOf   changes are such as the program has, and fit a schema
---     AreSources     what an open reader reads, as it is made
 --     GivesLines     these lines are left
 use Rattle.std.specs.Prelude.{All, false, List, Result, Ok, Err, ℕ, drop}
 use Rattle.std.specs.declared.alloc.AllocError.{AllocError}
 use Rattle.rc_schema.specs.SchemaValue.{SchemaValue}
 use Rattle.rc_writes.specs.Allowed.{ChangeFits}
 use Rattle.rc_mutation.specs.declared.mutations.Mutation.{Mutation}
-use Rattle.rc_mutation.specs.Fragments.{fragments}
 use Rattle.rc_mutation.specs.Source.{IsMutation}
 use Rattle.rc_query.specs.declared.lines.OutLine.{OutLine}
 use Rattle.rc_memory.specs.Memory.{Memory}
-use Rattle.rc_stream.specs.Did.{IsNewMerge}
-use Rattle.rc_stream.specs.Stream.{Stream, stream_of}
+use Rattle.rc_stream.specs.Stream.{Stream}
 use Rattle.rc_stream.specs.declared.merges.Merge.{Merge}
 use Rattle.rc_reader.specs.Left.{AreLeft}
 use Rattle.rc_snapshots.specs.declared.snaps.Snaps.{Snaps}
 use Rattle.rc_opened.specs.declared.no_files.NoFiles.{NoFiles}
 use Rattle.rc_opened.specs.declared.opened.Opened.{Opened}
 use Rattle.rc_opened.specs.declared.written.Written.{Written}
-use Rattle.rc_opened.specs.Written.{IsNewWritten, IsStreamOf, snap_in}
+use Rattle.rc_opened.specs.Written.{IsStreamOf, snap_in}
 
 -- changes are such as the program has, and fit a schema
 pub record AreChangesOf (schema : SchemaValue) (changes : List Mutation) : Type 0 where
@@ -41,16 +38,6 @@ active_stream_of s = s.theirs.stream.theirs.stream
 -- the store over which it reads
 abbrev pub no_files : NoFiles
 no_files = record { begun = false }
-
--- what an open reader reads, as it is made: the list of what the tables said, and the streams of both snapshots, from the beginning of the partition
-pub record AreSources (tables : Mutation) (snaps : Snaps) (s : OfSources) : Type 0 where
-  pub inner : Merge Written Written
-  pub sealed : Written
-  pub active : Written
-  pub new_sealed : IsNewWritten snaps.sealed sealed
-  pub new_active : IsNewWritten snaps.active active
-  pub written : IsNewMerge sealed active inner
-  pub all : IsNewMerge (stream_of (fragments tables)) inner s
 
 -- the snapshots that are read
 abbrev pub snaps_in : OfSources → Snaps

@@ -8,7 +8,8 @@ ghost use Rattle.rc_mutation.specs.Source.{IsJoinOf, IsMutation};
 ghost use Rattle.rc_schema.specs.SchemaValue.{SchemaValue};
 ghost use Rattle.rc_stream.specs.Stream.{stream_of};
 ghost use Rattle.rc_snapshots.specs.Seeing.{SeesAllOf};
-ghost use Rattle.rc_opened.specs.Opened.{AreChangesOf, AreSources, left_behind, snaps_in, snaps_of};
+ghost use Rattle.rc_opened.specs.Opened.{AreChangesOf, left_behind, snaps_in, snaps_of};
+ghost use Rattle.rc_opened.specs.calls.Opened.{AreSources};
 
 use crate::no_files::NoFiles;
 use crate::opening::new_sources_say_what_was_written;

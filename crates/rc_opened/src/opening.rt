@@ -11,7 +11,8 @@ ghost use Rattle.rc_stream.specs.Stream.{Stream};
 ghost use Rattle.rc_reader.specs.Left.{slice_lines};
 ghost use Rattle.rc_snapshots.specs.declared.snaps.Snaps.{Snaps};
 ghost use Rattle.rc_snapshots.specs.Seeing.{SeesAllOf};
-ghost use Rattle.rc_opened.specs.Opened.{AreChangesOf, AreSources, AreStreamsOf, OfSources, no_files};
+ghost use Rattle.rc_opened.specs.Opened.{AreChangesOf, AreStreamsOf, OfSources, no_files};
+ghost use Rattle.rc_opened.specs.calls.Opened.{AreSources};
 
 use crate::laws::writes_have_a_join;
 use crate::no_files::NoFiles;

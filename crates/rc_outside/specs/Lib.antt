@@ -4,5 +4,4 @@ pub mod Files
 pub mod Host
 pub mod Pushed
 pub mod States
-pub mod TableNames
 pub mod calls

@@ -5,7 +5,7 @@ ghost use Rattle.std.specs.List.Sorted.{IsStrictlyIncreasing};
 ghost use Rattle.rc_outside.specs.Faults.{raised_count, RisesIfFailed, RisesIfFault, OnFault, Rose};
 ghost use Rattle.rc_outside.specs.Host.{StandsIn, bytes_of_draft};
 ghost use Rattle.rc_outside.specs.calls.Host.{Heard, HeardOrFailed, IsToldAs};
-ghost use Rattle.rc_outside.specs.TableNames.{table_name};
+ghost use Rattle.rc_outside.specs.calls.TableNames.{table_name};
 ghost use Rattle.rc_outside.specs.calls.TableNames.{in_folder, draft_name};
 
 use super::counts::raise;

@@ -1,7 +1,7 @@
 // The names in the folder, and which of them are those of tables.
 ghost use Rattle.std.specs.Prelude.{◌≡◌, ◌↔◌, ◌++◌, ℕ, Contains, IfOk, MatchResult, OnOk, OnErr, string_bytes, slice_index};
 ghost use Rattle.std.specs.List.Sorted.{IsStrictlyIncreasing};
-ghost use Rattle.rc_outside.specs.TableNames.{ReadsTableName, TakesTableName, table_name};
+ghost use Rattle.rc_outside.specs.calls.TableNames.{ReadsTableName, TakesTableName, table_name};
 ghost use Rattle.rc_outside.specs.calls.TableNames.{ReadsNumber, in_folder, draft_name};
 
 use std::alloc::{AllocError, Global};

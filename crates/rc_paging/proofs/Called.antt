@@ -27,7 +27,7 @@ use Rattle.rc_paging.specs.Optional.{DidIfAny, WithBoth}
 use Rattle.rc_paging.specs.Layers.{IsCacheLayerOf, IsMemtableLayerOf, OfLayers, cached_in}
 use Rattle.rc_paging.specs.Pages.{IsKnownWhole}
 use Rattle.rc_paging.specs.calls.Keeping.{KeptCache, KeptLayers, Three}
-use Rattle.rc_cached.specs.Parts.{of_its_filler, of_snapshot, of_underlying}
+use Rattle.rc_cached.specs.calls.Parts.{of_its_filler, of_snapshot, of_underlying}
 use Rattle.rc_paging.specs.calls.Standing.{OfMemtables}
 use Rattle.rc_paging.proofs.Kept.{merges, opens, reads}
 use Rattle.rc_paging.proofs.Unread.{first_reaches}

@@ -23,7 +23,7 @@ use Rattle.rc_paging.specs.Layers.{IsCacheLayerOf, IsMemtableLayerOf, IsNewCache
 use Rattle.rc_paging.specs.Memtables.{IsOfMemtable}
 use Rattle.rc_paging.specs.Pages.{StandCached, StandsCached}
 use Rattle.rc_paging.specs.calls.Standing.{StillSeesIn}
-use Rattle.rc_cached.specs.Parts.{of_its_filler, of_snapshot, of_underlying}
+use Rattle.rc_cached.specs.calls.Parts.{of_its_filler, of_snapshot, of_underlying}
 use Rattle.rc_paging.proofs.Leaving.{leaves_on}
 use Rattle.rc_paging.proofs.Saying.{says_nothing}
 use Rattle.rc_paging.proofs.Unread.{leads}

@@ -15,7 +15,7 @@ use Rattle.lsa_path.specs.laws.Passing.{path-determined, path-few, path-named}
 use Rattle.lsa_path.specs.laws.Members.{member-split}
 use Rattle.lsa_path.specs.laws.Paths.{same_object, same_some, path-rest}
 use Rattle.lsa_path.specs.laws.Renamed.{some-there}
-use Rattle.lsa_list.specs.Recency.{object_of}
+use Rattle.lsa_list.specs.calls.Recency.{object_of}
 use Rattle.rc_version.specs.Entries.{IsEntryKind}
 use Rattle.rc_core.specs.Version.{Version}
 use Rattle.rc_version.specs.Versions.{IsStaticsOf, IsVersionOf}

@@ -3,7 +3,7 @@ ghost use Rattle.std.specs.Prelude.{◌≡◌, ◌≤◌, List, ◌∷◌, ◌++
 ghost use Rattle.lsa_store.specs.declared.place.Ref.{Ref as Name};
 ghost use Rattle.lsa_region.specs.declared.end.Root.{Root as Place};
 ghost use Rattle.lsa_region.specs.Region.{link_of, objects, IsEnd};
-ghost use Rattle.lsa_list.specs.Recency.{object_of};
+ghost use Rattle.lsa_list.specs.calls.Recency.{object_of};
 ghost use Rattle.lsa_path.specs.Path.{IsPath};
 ghost use Rattle.rc_version.specs.Versions.{IsStaticsOf, IsVersionOf};
 ghost use Rattle.rc_partition.specs.Partitions.{StandingVersion, IsRowOfVersion};

@@ -20,7 +20,7 @@ use Rattle.rc_memory.specs.Changes.{IsRenewedWhereNone}
 use Rattle.rc_memory.specs.laws.Entries.{keeps-split, only-split}
 use Rattle.rc_memory.specs.laws.Places.{same_some}
 use Rattle.rc_chain.specs.Marked.{HasMarksAt}
-use Rattle.rc_populate.specs.Marked.{known_at}
+use Rattle.rc_populate.specs.calls.Marked.{known_at}
 
 module _ (x : Pos) (at gap : Mark) (tomb : Option Tomb) (v : Version) (i : IsVersion v) (h : HasMarksAt x at gap v) where
   abbrev known : Mark

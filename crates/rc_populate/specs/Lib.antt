@@ -1,3 +1,3 @@
 pub mod Filling
-pub mod Marked
 pub mod laws
+pub mod calls

@@ -12,7 +12,7 @@ ghost use Rattle.rc_memory.specs.Memory.{Member, IsMemberObject};
 ghost use Rattle.rc_memory.specs.Room.{FitTogether};
 ghost use Rattle.rc_memory.specs.Changes.{AtAlone, IsRenewed, IsVersionChanged, Nowhere, member_at};
 ghost use Rattle.rc_populate.specs.Filling.{IsFilled, MayFill, OfPinned};
-ghost use Rattle.rc_populate.specs.Marked.{known_at};
+ghost use Rattle.rc_populate.specs.calls.Marked.{known_at};
 
 use crate::fills::count_shrunk;
 use lsa_region::Ref;

@@ -18,7 +18,8 @@ use Rattle.rc_core.specs.AtPlace.{EachEntry, HasEntryAt}
 use Rattle.rc_core.specs.Continuity.{EachOf}
 use Rattle.rc_core.specs.declared.entries.Entry.{Entry}
 use Rattle.rc_core.specs.laws.Surgery.{back-above, each-of-both, front-below}
-use Rattle.rc_core.specs.Parts.{IsClear, IsNearer, IsReach, SomeHasEntryAt}
+use Rattle.rc_core.specs.Parts.{IsClear, IsReach, SomeHasEntryAt}
+use Rattle.rc_core.specs.calls.Parts.{IsNearer}
 use Rattle.rc_core.specs.Version.{Ascend, Version}
 use Rattle.rc_object.specs.Objects.{HoldsEntry, SpellsEntry}
 use Rattle.rc_partition.specs.Versions.{HoldEntries, IsVersionOf}

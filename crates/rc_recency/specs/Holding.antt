@@ -3,7 +3,7 @@
 --     HoldsAfter      they hold some memory then, of which this is true
 --     IsTakenOff      they hold the memory with a list that has a place no more
 --     IsRelisted      nothing but links of the recency list changed
-use Rattle.std.specs.Prelude.{◌≡◌, ◌⊎◌, ℕ, List, length, Option, Some, None, Contains}
+use Rattle.std.specs.Prelude.{◌≡◌, ◌⊎◌, ℕ, List, length, Some, Contains}
 use Rattle.rc_cell.specs.declared.rows.Row.{Row}
 use Rattle.rc_position.specs.declared.positions.Pos.{Pos}
 use Rattle.rc_position.specs.Position.{IsBefore}
@@ -23,7 +23,7 @@ use Rattle.rc_object.specs.Objects.{HasRoomFor, HoldsEntry, HoldsStatic, entry_l
 use Rattle.rc_version.specs.Versions.{joined_bytes}
 use Rattle.rc_registry.specs.Registry.{Registry}
 use Rattle.rc_memory.specs.declared.counts.Counts.{Counts}
-use Rattle.rc_memory.specs.Memory.{KeptChain, Member, Memory, IsMemberObject, IsVersionAt, IsVersionObject, chain_at, listed_as}
+use Rattle.rc_memory.specs.Memory.{KeptChain, Member, Memory, IsVersionAt, IsVersionObject, chain_at, listed_as}
 use Rattle.rc_memory.specs.Kept.{HoldMemory}
 use Rattle.rc_memory.specs.Changes.{IsWithout}
 
@@ -44,11 +44,6 @@ pub record IsTakenOff (slots : Slots) (v : View) (registry : Registry) (counts :
   pub held : HoldMemory slots v registry counts (listed_as list v m)
   pub without : IsWithout w m.recency list
   pub off : Contains list w → ⊥
-
--- what is found at a place: the object there; or none, and then the recency list does not have it
-abbrev pub IsFoundAt : Memory → Member → Option Ref → Type 0
-IsFoundAt m w None = Contains m.recency w → ⊥
-IsFoundAt m w (Some r) = IsMemberObject m r w
 
 -- each link but those of the recency list names what it did, and all else is as it was
 pub record IsRelisted (slots : Slots) (old new : View) : Type 0 where

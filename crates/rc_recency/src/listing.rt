@@ -6,7 +6,8 @@ ghost use Rattle.rc_memory.specs.declared.counts.Counts.{Counts};
 ghost use Rattle.rc_memory.specs.Memory.{Member, Memory, IsMemberObject, listed_as};
 ghost use Rattle.rc_memory.specs.Kept.{HoldMemory};
 ghost use Rattle.rc_version.specs.Versions.{IsUnlisted};
-ghost use Rattle.rc_recency.specs.Holding.{IsFoundAt, IsRelisted, IsTakenOff};
+ghost use Rattle.rc_recency.specs.Holding.{IsRelisted, IsTakenOff};
+ghost use Rattle.rc_recency.specs.calls.Holding.{IsFoundAt};
 ghost use Rattle.rc_recency.specs.calls.Holding.{list_with};
 
 use lsa_list::List;

@@ -28,10 +28,12 @@ use Rattle.rc_stream.specs.laws.Says.{le_le}
 use Rattle.rc_mutation.specs.Fragments.{place_order}
 use Rattle.rc_stream.specs.declared.holding.Turn.{Turn}
 use Rattle.rc_stream.specs.declared.holding.Turn.TheVariants as turn
-use Rattle.rc_stream.specs.Merging.{IsInner, IsOrdered, StandsBefore, changes_nothing, place_of, together}
+use Rattle.rc_stream.specs.Merging.{IsInner, IsOrdered, StandsBefore, changes_nothing, place_of}
+use Rattle.rc_stream.specs.calls.Merging.{together}
 use Rattle.rc_stream.specs.calls.Merging.{beside}
 use Rattle.rc_stream.specs.laws.Ordered.{Place, place_same}
-use Rattle.rc_stream.specs.Holding.{IsFrom, StandsOver, held_fragments, later, look_fragments, nearer}
+use Rattle.rc_stream.specs.Holding.{IsFrom, StandsOver, held_fragments, look_fragments}
+use Rattle.rc_stream.specs.calls.Holding.{later, nearer}
 use Rattle.rc_stream.specs.calls.Holding.{is_near, row_of, turn_of, TakesFirst, alone, behind_first, look_past, look_taken, pair_step, fragment_step}
 use Rattle.rc_cell.specs.Winner.{first_of}
 

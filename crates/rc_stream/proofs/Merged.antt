@@ -17,7 +17,8 @@ use Rattle.rc_mutation.specs.declared.fragments.Frag.TheVariants as frag
 use Rattle.rc_mutation.specs.laws.ByKey.{joined_if_any}
 use Rattle.rc_mutation.specs.Fragments.{place_order, tomb_after}
 use Rattle.rc_stream.specs.Stream.{force, is_passed, row_at}
-use Rattle.rc_stream.specs.Merging.{IsInner, IsOrdered, IsTelling, StandsBefore, changes_nothing, merged_left, place_of, rows_here, together}
+use Rattle.rc_stream.specs.Merging.{IsInner, IsOrdered, IsTelling, StandsBefore, changes_nothing, merged_left, place_of, rows_here}
+use Rattle.rc_stream.specs.calls.Merging.{together}
 use Rattle.rc_stream.specs.calls.Merging.{beside}
 use Rattle.rc_stream.specs.laws.Ordered.{Place, Lt, place_total, place_same, before-through, irreflexive, no_rows, same_pos, stop, unpassed}
 use Rattle.rc_stream.proofs.Stepping.{after-beside, after-theirs, after-together, beside_theirs, nothing-after, step-none, step-ours, step-theirs, step-together, tell, other_rank}

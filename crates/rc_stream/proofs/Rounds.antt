@@ -24,10 +24,12 @@ use Rattle.rc_stream.specs.declared.holding.Turn.{Turn}
 use Rattle.rc_stream.specs.declared.holding.Turn.TheVariants as turn
 use Rattle.rc_stream.specs.Fronts.{front_tomb}
 use Rattle.rc_stream.specs.Stream.{Stream, first_upto, is_upto, rest}
-use Rattle.rc_stream.specs.Merging.{IsInner, IsOrdered, StandsBefore, changes_nothing, joined_head, merged_left, merged_stream, place_of, together}
+use Rattle.rc_stream.specs.Merging.{IsInner, IsOrdered, StandsBefore, changes_nothing, joined_head, merged_left, merged_stream, place_of}
+use Rattle.rc_stream.specs.calls.Merging.{together}
 use Rattle.rc_stream.specs.calls.Merging.{beside}
 use Rattle.rc_stream.specs.Places.{bound_of}
-use Rattle.rc_stream.specs.Holding.{HeldFits, nearer, tomb_behind, held_fragments, whole}
+use Rattle.rc_stream.specs.Holding.{HeldFits, tomb_behind, held_fragments, whole}
+use Rattle.rc_stream.specs.calls.Holding.{nearer}
 use Rattle.rc_stream.specs.calls.Holding.{TakesTurn, IsStepUpto, TakesFirst, alone, begins_upto, behind_first, is_near, pair_step, fragment_step, turn_of}
 use Rattle.rc_stream.specs.calls.Moving.{StepSays}
 use Rattle.rc_stream.proofs.Held.{upto-beside, upto-together}

@@ -20,7 +20,8 @@ use Rattle.rc_mutation.specs.declared.fragments.Frag.{Frag}
 use Rattle.rc_mutation.specs.declared.fragments.Frag.TheVariants as frag
 use Rattle.rc_mutation.specs.Fragments.{place_order, tomb_after}
 use Rattle.rc_stream.specs.Stream.{force, is_passed, row_at}
-use Rattle.rc_stream.specs.Merging.{IsInner, IsOrdered, StandsBefore, both_say, changes_nothing, merged_left, place_of, placed_fragment, rows_here, same_tomb, telling, together}
+use Rattle.rc_stream.specs.Merging.{IsInner, IsOrdered, StandsBefore, both_say, changes_nothing, merged_left, place_of, placed_fragment, rows_here, same_tomb, telling}
+use Rattle.rc_stream.specs.calls.Merging.{together}
 use Rattle.rc_stream.specs.calls.Merging.{beside}
 use Rattle.rc_stream.specs.laws.Ordered.{Place, Lt, place_total, place_same, before-append, no_row-passed, no_rows, itself, irreflexive, passed-change, passed-row, passes-itself, stop}
 

@@ -2,7 +2,7 @@
 use Rattle.std.specs.Prelude.{◌≡◌, true, false, List, [], ◌∷◌, ◌++◌, Option, Some, None, Result, Ok, Err, OnOk}
 use Rattle.std.proofs.Common.{refl, sym, ap, ◌∙◌, subst, inl, inr}
 use Rattle.rc_cell.specs.declared.writes.Tomb.{Tomb}
-use Rattle.rc_cell.specs.Greatest.{is_nil}
+use Rattle.rc_cell.specs.calls.Greatest.{is_nil}
 use Rattle.rc_position.specs.declared.positions.Pos.{Pos}
 use Rattle.rc_mutation.specs.declared.fragments.Frag.{Frag}
 use Rattle.rc_mutation.specs.declared.fragments.Head.{Head}

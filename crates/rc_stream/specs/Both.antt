@@ -1,27 +1,15 @@
 -- The two streams that a merge is of, each with what is held of it, and the seek that is due: what is said of both together.
 --     HoldBoth        both stand for streams that merge to this one
---     KeepEachOther   the calls of each leave the other one standing
 --     SoughtBoth      so, once a seek that is due was done
-use Rattle.std.specs.Prelude.{◌≡◌, Option, Some, None, IfSome}
+use Rattle.std.specs.Prelude.{◌≡◌, Option, Some, None}
 use Rattle.rc_position.specs.declared.positions.Pos.{Pos}
 use Rattle.rc_stream.specs.declared.merges.Merge.{Merge}
-use Rattle.rc_stream.specs.Moving.{Holds, Keeps, KeepsSeen, MaySeek, nothing_held}
+use Rattle.rc_stream.specs.Moving.{Holds, MaySeek, nothing_held}
 use Rattle.rc_stream.specs.Places.{Reaches}
 use Rattle.rc_stream.specs.Showing.{EitherSpot, FileSpots, MergesTwo}
 use Rattle.rc_stream.specs.Stream.{Stream, sought_stream}
 
 -- ---- both
-
--- the calls of both may be made
-abbrev pub BothReady : {A B H W : Type 0} → (A → H → W → Type 0) → (B → H → W → Type 0) → Merge A B → H → W → Type 0
-BothReady ready ready' m h w = ready m.ours.stream h w × ready' m.theirs.stream h w
-
--- what calls of each may make of home and store leaves the other one ready, and each stream that it stands for
-pub record KeepEachOther {A B H W : Type 0} (ready : A → H → W → Type 0) (seen : A → H → W → Stream → Type 0) (moves : H → W → H → W → Type 0) (ready' : B → H → W → Type 0) (seen' : B → H → W → Stream → Type 0) (moves' : H → W → H → W → Type 0) : Type 0 where
-  pub ours : Keeps moves' ready
-  pub theirs : Keeps moves ready'
-  pub ours_seen : KeepsSeen moves' seen
-  pub theirs_seen : KeepsSeen moves seen'
 
 -- both, each with what is held of it, stand for streams that merge to this one
 abbrev pub HoldBoth : {A B H W : Type 0} → (A → H → W → Stream → Type 0) → (B → H → W → Stream → Type 0) → Merge A B → H → W → Stream → Type 0
@@ -62,7 +50,3 @@ SoughtBoth seen seen' m h w s = AfterDue m.due (HoldBoth seen seen' m h w) s
 -- x is ahead of both, or not before the seek that is due
 abbrev pub AheadOfBoth : {A B : Type 0} → (A → Pos → Type 0) → (B → Pos → Type 0) → Merge A B → Pos → Type 0
 AheadOfBoth ahead ahead' m x = AheadOfDue m.due (MaySeekBoth ahead ahead' m) x
-
--- both may be sought to where a seek is due
-abbrev pub IsDueAhead : {A B : Type 0} → (A → Pos → Type 0) → (B → Pos → Type 0) → Merge A B → Type 0
-IsDueAhead ahead ahead' m = IfSome m.due (MaySeekBoth ahead ahead' m)

@@ -1,20 +1,14 @@
 -- What is held of a stream in front of what it still has: what was looked at and not given.
-use Rattle.std.specs.Prelude.{◌≡◌, ℕ, option_map, cond, List, [], ◌∷◌, ◌++◌, Option, Some, None, ⊤}
-use Rattle.std.specs.Ordering.{is_le}
-use Rattle.std.specs.FinMap.Entries.{by_order}
+use Rattle.std.specs.Prelude.{◌≡◌, List, [], ◌∷◌, ◌++◌, Option, ⊤}
 use Rattle.rc_cell.specs.declared.writes.Tomb.{Tomb}
-use Rattle.rc_cell.specs.Winner.{first_of}
 use Rattle.rc_position.specs.declared.positions.Pos.{Pos}
 use Rattle.rc_mutation.specs.declared.fragments.Frag.{Frag}
-use Rattle.rc_mutation.specs.Fragments.{place_order, tomb_after}
+use Rattle.rc_mutation.specs.Fragments.{tomb_after}
 use Rattle.rc_stream.specs.declared.holding.Held.{Held}
 use Rattle.rc_stream.specs.declared.holding.Look.{Look}
 use Rattle.rc_stream.specs.declared.holding.Look.TheVariants as look
-use Rattle.rc_stream.specs.declared.holding.Turn.{Turn}
-use Rattle.rc_stream.specs.declared.holding.Turn.TheVariants as turn
 use Rattle.rc_stream.specs.Fronts.{front_change, front_tomb}
 use Rattle.rc_stream.specs.Places.{Reaches}
-use Rattle.rc_position.specs.Position.{pos_cmp}
 use Rattle.rc_stream.specs.Stream.{Stream}
 use Rattle.rc_stream.specs.Merging.{IsOrdered, StandsBefore, place_of}
 
@@ -57,18 +51,3 @@ pub record HeldFits (h : Held) (s : Stream) : Type 0 where
   pub ordered : IsOrdered (held_fragments h ++ s.left)
   pub tomb : s.tomb ≡ tomb_behind (front_tomb h.front) (held_fragments h)
   pub over : StandsOver h.look s.left
-
--- which of two places is the smaller, where there are any
-abbrev pub turn_between : Option (Pos × ℕ) → Option (Pos × ℕ) → Turn
-turn_between None None = turn.Nobody
-turn_between None (Some q) = turn.Theirs
-turn_between (Some p) None = turn.Ours
-turn_between (Some p) (Some q) = by_order (place_order p q) turn.Ours turn.Both turn.Theirs
-
--- which of two first fragments has the smaller place
-abbrev pub nearer : List Frag → List Frag → Turn
-nearer fs gs = turn_between (option_map place_of (first_of fs)) (option_map place_of (first_of gs))
-
--- the later of two positions
-abbrev pub later : Pos → Pos → Pos
-later x y = cond (is_le (pos_cmp x y)) y x

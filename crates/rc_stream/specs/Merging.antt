@@ -96,9 +96,3 @@ joined_head h k = record { pt = greater tomb_cmp h.pt k.pt; statics = joined_row
 -- two streams as one
 unfoldable pub merged_stream : Stream → Stream → Stream
 merged_stream s t = record { head = joined_head s.head t.head; tomb = greater tomb_cmp s.tomb t.tomb; left = merged_left s.tomb s.left t.tomb t.left }
-
--- two fragments at one place as one
-abbrev pub together : Frag → Frag → Frag
-together (frag.Row key row) (frag.Row key' row') = frag.Row key (joined_row (row ∷ row' ∷ []))
-together (frag.Change from next) (frag.Change from' next') = frag.Change from (greater tomb_cmp next next')
-together f g = f

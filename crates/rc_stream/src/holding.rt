@@ -1,17 +1,20 @@
 // What is held of a stream that is merged with another: what was looked at and not given.
 ghost use Rattle.std.specs.Prelude.{◌≡◌, ◌∷◌, [], true, false, cond, None, Some, IfOk, OnErr, option_map};
 ghost use Rattle.std.specs.Option.{option_to_list};
-ghost use Rattle.rc_cell.specs.Greatest.{greater, is_nil};
+ghost use Rattle.rc_cell.specs.Greatest.{greater};
+ghost use Rattle.rc_cell.specs.calls.Greatest.{is_nil};
 ghost use Rattle.rc_cell.specs.Orders.{tomb_cmp};
 ghost use Rattle.rc_cell.specs.Winner.{joined_row, first_of};
 ghost use Rattle.rc_mutation.specs.Fragments.{place_order};
 ghost use Rattle.rc_stream.specs.Fronts.{front_change, front_tomb};
 ghost use Rattle.rc_stream.specs.Stream.{rest};
-ghost use Rattle.rc_stream.specs.Merging.{changes_nothing, place_of, same_tomb, together};
+ghost use Rattle.rc_stream.specs.Merging.{changes_nothing, place_of, same_tomb};
+ghost use Rattle.rc_stream.specs.calls.Merging.{together};
 ghost use Rattle.rc_stream.specs.calls.Merging.{beside};
 ghost use Rattle.rc_stream.specs.calls.Moving.{look_after};
 ghost use Rattle.rc_stream.specs.Places.{bound_of};
-ghost use Rattle.rc_stream.specs.Holding.{held_fragments, look_fragments, nearer, turn_between};
+ghost use Rattle.rc_stream.specs.Holding.{held_fragments, look_fragments};
+ghost use Rattle.rc_stream.specs.calls.Holding.{nearer, turn_between};
 ghost use Rattle.rc_stream.specs.calls.Holding.{TakesTurn, TakesFirst, WentOn, alone, begins_upto, behind_first, look_past, is_near, look_passed, look_taken, pair_step, passed_over, passes_held, row_of, row_of_both, fragment_step, turn_of};
 
 use crate::lists::{Front, front_at, passes, row_pos, stands_upto, tomb_after};

@@ -2,7 +2,8 @@
 ghost use Rattle.std.specs.Prelude.{◌≡◌, None, Some, IfOk, IfSome, IsTrue, OnOk};
 ghost use Rattle.rc_outside.specs.Files.{HoldsSameFiles};
 ghost use Rattle.rc_position.specs.declared.positions.Pos.{Pos};
-ghost use Rattle.rc_stream.specs.Both.{AheadOfBoth, BothFresh, BothReady, HoldBoth, IsDueAhead, KeepEachOther, MaySeekBoth, MightBoth, SoughtBoth, SpotsOfBoth};
+ghost use Rattle.rc_stream.specs.Both.{AheadOfBoth, BothFresh, HoldBoth, MaySeekBoth, MightBoth, SoughtBoth, SpotsOfBoth};
+ghost use Rattle.rc_stream.specs.calls.Both.{BothReady, IsDueAhead, KeepEachOther};
 ghost use Rattle.rc_stream.specs.calls.Both.{LookedBoth};
 ghost use Rattle.rc_stream.specs.Leaving.{left_by};
 ghost use Rattle.rc_stream.specs.Causes.{Caused};
@@ -263,7 +264,8 @@ fn joined_head(alloc: Global, head: Head, other: &Head) -> Result<Head, AllocErr
 }
 
 impl<H, W: Store, A: Frags<H, W>, B: Frags<H, W>> Frags<H, W> for Merge<A, B> {
-    ghost use Rattle.rc_stream.specs.Both.{AheadOfBoth, BothFresh, BothReady, IsDueAhead, KeepEachOther, MightBoth, SoughtBoth, SpotsOfBoth};
+    ghost use Rattle.rc_stream.specs.Both.{AheadOfBoth, BothFresh, MightBoth, SoughtBoth, SpotsOfBoth};
+    ghost use Rattle.rc_stream.specs.calls.Both.{BothReady, IsDueAhead, KeepEachOther};
     ghost use Rattle.rc_stream.specs.Did.{merge_did};
     ghost use Rattle.rc_stream.specs.Moving.{Moved};
 

@@ -24,7 +24,8 @@ use Rattle.lsa_path.specs.laws.Steps.{set-unset}
 use Rattle.lsa_region.specs.Paired.{WellPaired}
 use Rattle.lsa_region.specs.laws.Ends.{ends_decided}
 use Rattle.lsa_list.specs.declared.recency.List.{List as Slots}
-use Rattle.lsa_list.specs.Recency.{kind_of, HasRecency, AllHaveRecency, IsList, IsElsewhere, first, object_of}
+use Rattle.lsa_list.specs.Recency.{kind_of, HasRecency, AllHaveRecency, IsList, IsElsewhere, first}
+use Rattle.lsa_list.specs.calls.Recency.{object_of}
 
 pub fields_differ : ◌≢◌ {A = ℕ} 0 1
 fields_differ e = cc

@@ -1,5 +1,5 @@
 use Rattle.std.proofs.Common.{◌≡◌, length, sym, subst, arith}
-use Rattle.lsa_pool.specs.Sparsest.{IsBest}
+use Rattle.lsa_pool.specs.calls.Sparsest.{IsBest}
 use Rattle.lsa_pool.specs.laws.Usages.{sparsest-best}
 use Rattle.lsa_pool.proofs.least_live.Goals as goal
 

@@ -1,4 +1,4 @@
-use Rattle.lsa_pool.specs.Sparsest.{IsBest}
+use Rattle.lsa_pool.specs.calls.Sparsest.{IsBest}
 use Rattle.lsa_pool.proofs.least_live.Given as goal
 
 abbrev pub invariant-loop-number : goal.invariant-loop-number

@@ -12,7 +12,7 @@ use Rattle.lsa_pool.specs.declared.State.{State}
 use Rattle.lsa_pool.specs.declared.State.TheVariants.{Free, Active, Closed}
 use Rattle.lsa_pool.specs.declared.Usage.{Usage}
 use Rattle.lsa_pool.specs.Room.{nothing, usage_of, active_of, is_state_active, is_state_closed, is_sparsest, sparsest_of}
-use Rattle.lsa_pool.specs.Sparsest.{IsBest}
+use Rattle.lsa_pool.specs.calls.Sparsest.{IsBest}
 
 -- a segment that is not free is in the list
 pub within : (us : List Usage) (n : ℕ) → (usage_of us n).state ≢ Free → n < length us

@@ -1,12 +1,24 @@
 -- What one step of a link or a root slot changes.
-use Rattle.std.specs.Prelude.{◌≡◌, ◌≢◌, ℕ, ◌+◌, List, slice_index_or, Option, None}
+use Rattle.std.specs.Prelude.{◌≡◌, ◌≢◌, ℕ, ◌+◌, List, slice_index_or, Option, None, max, cond, Some}
 use Rattle.std.specs.Option.{option_map}
 use Rattle.lsa_store.specs.Cells.{Cell, size_of, extent}
 use Rattle.lsa_store.specs.declared.place.Ref.{Ref}
 use Rattle.lsa_store.specs.Objects.{cells_of, cell_in, body_in, live_count, object_count}
 use Rattle.lsa_region.specs.declared.end.End.{End}
 use Rattle.lsa_region.specs.declared.end.End.TheVariants.{Obj, Slot}
-use Rattle.lsa_region.specs.Ends.{slots_in, named_in, IsEndIn}
+use Rattle.lsa_region.specs.Ends.{slots_in, named_in, IsEndIn, same_ref}
+
+-- the slot of this number was not there, and names nothing now; the bound rises only where each slot below it was there
+pub record IsSlotMade (old new : List (Option (Option End))) (n : ℕ) : Type 0 where
+  pub fresh : slice_index_or old n None ≡ None
+  pub here : slice_index_or new n None ≡ Some None
+  pub others : (m : ℕ) → m ≢ n → slice_index_or new m None ≡ slice_index_or old m None
+  pub there : (slots_in new).there ≡ (slots_in old).there + 1
+  pub bound : (slots_in new).bound ≡ max (slots_in old).bound ((slots_in old).there + 1)
+
+-- r where it was q, q where it was r, and else the same
+abbrev pub swapped_ref : Ref → Ref → Ref → Ref
+swapped_ref r q x = cond (same_ref x r) q (cond (same_ref x q) r x)
 
 -- the slot of this number is gone
 pub record IsSlotDropped (old new : List (Option (Option End))) (n : ℕ) : Type 0 where

@@ -11,7 +11,7 @@ use Rattle.lsa_store.specs.Stored.{Stored}
 use Rattle.lsa_region.specs.declared.end.Root.{Root}
 use Rattle.lsa_region.specs.declared.end.End.{End}
 use Rattle.lsa_region.specs.declared.end.End.TheVariants.{Obj, Slot}
-use Rattle.lsa_region.specs.Ends.{swapped_ref}
+use Rattle.lsa_region.specs.calls.Ends.{swapped_ref}
 use Rattle.lsa_region.specs.calls.Ends.{IsSameShape, end_by}
 use Rattle.lsa_region.specs.Region.{View, body, link_of, IsEnd, slots_of}
 

@@ -4,7 +4,8 @@ use Rattle.std.specs.Prelude.{nat_eq}
 use Rattle.std.proofs.lemmas.Bool.{eqb-true, eq-eqb}
 use Rattle.lsa_store.specs.declared.place.Ref.{Ref}
 use Rattle.lsa_store.specs.laws.Places.{ref-equal, apart_refs}
-use Rattle.lsa_region.specs.Ends.{same_ref, swapped_ref}
+use Rattle.lsa_region.specs.Ends.{same_ref}
+use Rattle.lsa_region.specs.calls.Ends.{swapped_ref}
 
 pub refs_decided : (q r : Ref) → (q ≡ r) ⊎ (q ≢ r)
 refs_decided q r = elim (apart_refs q r) [

@@ -8,8 +8,10 @@ use Rattle.lsa_shape.specs.declared.flank.Flank.{Flank}
 use Rattle.lsa_shape.specs.declared.flank.Flank.TheVariants.{Low, High}
 use Rattle.lsa_shape.specs.Flanks.{other_flank}
 use Rattle.lsa_shape.specs.Shapes.{TreeShape, Leaf, Node, inorder, IsIn, node_on, shape_by}
-use Rattle.lsa_shape.specs.Ways.{Fork, ForkAt, plug, IsAround}
-use Rattle.lsa_shape.specs.Levels.{HasBalance, IsLevel, IsLevelAround, shape_size}
+use Rattle.lsa_shape.specs.Ways.{Fork, ForkAt, plug}
+use Rattle.lsa_shape.specs.laws.Ways.{IsAround}
+use Rattle.lsa_shape.specs.Levels.{HasBalance, IsLevel, IsLevelAround}
+use Rattle.lsa_shape.specs.calls.Levels.{shape_size}
 
 pub leans-other : (flank : Flank) (balance near far depth : ℕ) → HasBalance flank balance near far depth → HasBalance (other_flank flank) balance far near depth
 leans-other Low balance near far depth (inl w) = inl (w.0, sym w.1, omega (arith, w.1, w.2))

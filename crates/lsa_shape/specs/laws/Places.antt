@@ -11,7 +11,8 @@ use Rattle.lsa_shape.specs.declared.flank.Flank.{Flank}
 use Rattle.lsa_shape.specs.declared.flank.Flank.TheVariants.{Low, High}
 use Rattle.lsa_shape.specs.Flanks.{near_link, far_link}
 use Rattle.lsa_shape.specs.Shapes.{TreeShape, Leaf, Node, inorder, IsIn, HangsAt, IsOff, IsClearOf, StaysBeyond, node_on}
-use Rattle.lsa_shape.specs.Ways.{Fork, ForkAt, plug, hole, fork_before, fork_behind, way_before, way_behind, IsAround}
+use Rattle.lsa_shape.specs.Ways.{Fork, ForkAt, plug, hole, fork_before, fork_behind, way_before, way_behind}
+use Rattle.lsa_shape.specs.laws.Ways.{IsAround}
 use Rattle.lsa_shape.specs.laws.Hanging.{field-off, hangs-moved}
 use Rattle.lsa_shape.specs.laws.Sides.{near_differs, in-node, node-in, inorder-node, hangs-node, node-hangs, near-root, near-clear, far-root, sides-apart}
 

@@ -14,8 +14,9 @@ use Rattle.lsa_shape.specs.declared.flank.Flank.TheVariants.{Low, High}
 use Rattle.lsa_shape.specs.Flanks.{near_link}
 use Rattle.lsa_shape.specs.Shapes.{TreeShape, Leaf, Node, inorder, HangsAt, IsClearOf}
 use Rattle.lsa_shape.specs.Ways.{Fork, ForkAt, plug, hole}
-use Rattle.lsa_shape.specs.Levels.{shape_size}
-use Rattle.lsa_shape.specs.Readings.{tree_or_leaf, shape_at, one_more, steps_up, LeadsUp, way_objects}
+use Rattle.lsa_shape.specs.calls.Levels.{shape_size}
+use Rattle.lsa_shape.specs.Readings.{LeadsUp, way_objects}
+use Rattle.lsa_shape.specs.laws.Readings.{tree_or_leaf, shape_at, one_more, steps_up}
 use Rattle.lsa_shape.specs.laws.Hanging.{listed-in, root-low, root-high, parts-apart, root-clear_low, root-clear_high}
 use Rattle.lsa_shape.specs.laws.Places.{HangsAround, hangs-around}
 

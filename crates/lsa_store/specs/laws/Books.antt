@@ -8,7 +8,8 @@ use Rattle.lsa_pool.specs.declared.Usage.{Usage}
 use Rattle.lsa_pool.specs.declared.State.TheVariants.{Closed}
 use Rattle.lsa_pool.specs.Room.{nothing, is_state_active, usage_of, free_count, live_sum, active_of, active_room, spare_of}
 use Rattle.lsa_pool.specs.laws.Usages.{active-state, closed-inside, set_elim}
-use Rattle.lsa_store.specs.Stock.{stock_of, IsTurned, IsCredited, IsTaken, IsGivenBack}
+use Rattle.lsa_store.specs.Stock.{stock_of, IsTaken, IsGivenBack}
+use Rattle.lsa_store.specs.calls.Stock.{IsTurned, IsCredited}
 
 pub active_inside : (us : List Usage) (n : ℕ) → active_of us ≡ Some n → n < length us
 active_inside us n e = (position-Some (λ u. is_state_active u.state) us n nothing e).0

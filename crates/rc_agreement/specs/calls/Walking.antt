@@ -16,7 +16,8 @@ use Rattle.rc_core.specs.declared.entries.ChainKind.{ChainKind}
 use Rattle.rc_core.specs.Version.{Version, end_position}
 use Rattle.rc_stream.specs.Places.{Reaches}
 use Rattle.rc_stream.specs.Snapshot.{Throughout}
-use Rattle.rc_agreement.specs.Agreement.{IsGapSaid, IsPlaceSaid}
+use Rattle.rc_agreement.specs.Agreement.{IsGapSaid}
+use Rattle.rc_agreement.specs.calls.Agreement.{IsPlaceSaid}
 
 -- rows and pieces say from a place on what a mutation says
 pub record IsLeftFrom (x : Pos) (m : Mutation) (rows : List (List Comp × Row)) (pieces : List Piece) : Type 0 where

@@ -9,7 +9,8 @@ use Rattle.std.specs.List.{filter, list_any, list_all}
 use Rattle.std.specs.Cmp.{IsTotalOrder, upto, tied_itself}
 use Rattle.std.specs.FinMap.{IsAntisymmetric}
 use Rattle.rc_cell.specs.Winner.{first_of, greatest}
-use Rattle.rc_cell.specs.Greatest.{greater, is_nil}
+use Rattle.rc_cell.specs.Greatest.{greater}
+use Rattle.rc_cell.specs.calls.Greatest.{is_nil}
 
 -- the test of the value, true where there is none, and false where there is none
 abbrev pub if_any : {K : Type 0} → (K → Bool) → Option K → Bool

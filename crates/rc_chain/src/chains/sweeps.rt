@@ -11,7 +11,7 @@ ghost use Rattle.rc_memory.specs.Recency.{HasObject, IsLastInner};
 ghost use Rattle.rc_registry.specs.Registry.{AreFree};
 ghost use Rattle.rc_memory.specs.Memory.{KeptChain, Member, HasChain, HasPin, HasVersion, IsMemberObject, IsVersionAt, chain_at, listed_as};
 ghost use Rattle.rc_memory.specs.Changes.{Nowhere, NothingListed, OfVersion, StandStill, member_at};
-ghost use Rattle.rc_recency.specs.Holding.{IsFoundAt};
+ghost use Rattle.rc_recency.specs.calls.Holding.{IsFoundAt};
 ghost use Rattle.rc_chain.specs.Lives.{IsAtUpTo, IsEndAlone, IsChainChanged, IsChainDropped, IsEntryFreed, IsIdle, IsLastDropped, IsOneFreed, IsRelabelled, IsStaticFreed, IsTouched, IsVersionDropped, relabelled_chain};
 
 use super::{Chains, Snap};

@@ -18,7 +18,8 @@ use Rattle.rc_core.specs.declared.entries.Mark.{Mark}
 use Rattle.rc_core.specs.SpotState.{SpotState, silent}
 use Rattle.rc_core.specs.Version.{Spot, On, Behind, gap_ordering as behind_of, spot_cmp, entry_answers, finding_of, finding_in, state_of, Ascend, Version, IsVersion, end_position}
 use Rattle.rc_core.specs.Change.{mark, position_of, dummy, gap_split, split_by, take_out, with_gap, with_first_gap, drop_at, lost_mark}
-use Rattle.rc_core.specs.AtPlace.{EachEntry, FitsBy, FitsPlace, SaysNothingAt, HasEntryAt, EndsBehind, IsAtPlace}
+use Rattle.rc_core.specs.AtPlace.{EachEntry, HasEntryAt, EndsBehind, IsAtPlace}
+use Rattle.rc_core.specs.calls.AtPlace.{FitsBy, FitsPlace, SaysNothingAt}
 use Rattle.rc_core.specs.Continuity.{with_entries, without_statics}
 use Rattle.rc_core.specs.Merge.{new_version}
 use Rattle.rc_core.specs.Plain.{no_mark}

@@ -6,7 +6,7 @@ use Rattle.rc_memory.specs.Memory.{Memory}
 use Rattle.rc_stream.specs.Stream.{Stream}
 use Rattle.rc_cacheread.specs.Sharing.{IsReady, Sees}
 use Rattle.rc_cached.specs.declared.readings.Readings.{Readings}
-use Rattle.rc_cached.specs.Parts.{of_its_filler, of_snapshot, of_underlying}
+use Rattle.rc_cached.specs.calls.Parts.{of_its_filler, of_snapshot, of_underlying}
 use Rattle.rc_cached.specs.Streams.{OfCache}
 
 -- its calls may be made over chains and readings

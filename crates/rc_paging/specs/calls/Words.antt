@@ -4,7 +4,7 @@ use Rattle.rc_mutation.specs.declared.mutations.Mutation.{Mutation}
 use Rattle.rc_memory.specs.Memory.{Memory}
 use Rattle.rc_cacheread.specs.Sharing.{IsReaderOf, IsReady}
 use Rattle.rc_cached.specs.declared.readings.Readings.{Readings}
-use Rattle.rc_cached.specs.Parts.{of_its_filler, of_snapshot, of_underlying}
+use Rattle.rc_cached.specs.calls.Parts.{of_its_filler, of_snapshot, of_underlying}
 use Rattle.rc_cached.specs.Streams.{OfCache, read_below}
 
 -- where there is a cached stream, it is a reader of these writes

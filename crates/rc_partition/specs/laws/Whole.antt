@@ -18,7 +18,7 @@ use Rattle.lsa_region.specs.Region.{View, body, link_of, live_bytes, objects, Is
 use Rattle.lsa_region.specs.laws.Refs.{refs_decided}
 use Rattle.lsa_path.specs.laws.Renamed.{some-there}
 use Rattle.lsa_list.specs.declared.recency.List.{List as Slots}
-use Rattle.lsa_list.specs.Recency.{object_of}
+use Rattle.lsa_list.specs.calls.Recency.{object_of}
 use Rattle.rc_version.specs.Trees.{tree-pairs}
 use Rattle.rc_core.specs.declared.entries.Entry.{Entry}
 use Rattle.rc_rowcode.specs.Objects.{static_size}

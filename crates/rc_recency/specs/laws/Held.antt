@@ -17,7 +17,8 @@ use Rattle.rc_memory.specs.laws.At.{kept-at, number-mapped}
 use Rattle.rc_memory.specs.laws.Listed.{one-at, stand-object}
 use Rattle.rc_memory.specs.laws.Places.{no_some, same_some, version-there}
 use Rattle.rc_memory.specs.laws.Put.{used-at}
-use Rattle.rc_recency.specs.Holding.{IsFoundAt, IsHeldVersion}
+use Rattle.rc_recency.specs.Holding.{IsHeldVersion}
+use Rattle.rc_recency.specs.calls.Holding.{IsFoundAt}
 
 -- the version of a number of a chain as it stands in the region, whose object is this one
 pub record IsStandingAs (st : List (Option PartitionEntry)) (id j : ℕ) (c : Version) (n : Ref) : Type 0 where

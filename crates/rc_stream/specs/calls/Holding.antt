@@ -1,15 +1,15 @@
 -- A step of a merge: whose turn it is, what is given, and what is held then.
-use Rattle.std.specs.Prelude.{◌≡◌, IsTrue, Bool, true, false, cond, ◌&&◌, List, [], ◌∷◌, ◌++◌, Option, Some, None, ⊤}
+use Rattle.std.specs.Prelude.{◌≡◌, IsTrue, Bool, true, false, cond, ◌&&◌, List, [], ◌∷◌, ◌++◌, Option, Some, None, ⊤, ℕ, option_map}
 use Rattle.std.specs.Ordering.{is_le}
 use Rattle.rc_cell.specs.declared.rows.Row.{Row}
 use Rattle.rc_cell.specs.declared.writes.Tomb.{Tomb}
 use Rattle.rc_cell.specs.Greatest.{greater}
 use Rattle.rc_cell.specs.Orders.{tomb_cmp}
-use Rattle.rc_cell.specs.Winner.{joined_row}
+use Rattle.rc_cell.specs.Winner.{joined_row, first_of}
 use Rattle.rc_position.specs.declared.positions.Pos.{Pos}
 use Rattle.rc_mutation.specs.declared.fragments.Frag.{Frag}
 use Rattle.rc_mutation.specs.declared.fragments.Frag.TheVariants as frag
-use Rattle.rc_mutation.specs.Fragments.{tomb_after}
+use Rattle.rc_mutation.specs.Fragments.{tomb_after, place_order}
 use Rattle.rc_stream.specs.declared.holding.Held.{Held}
 use Rattle.rc_stream.specs.declared.holding.Look.{Look}
 use Rattle.rc_stream.specs.declared.holding.Look.TheVariants as look
@@ -23,9 +23,26 @@ use Rattle.rc_stream.specs.Fronts.{front_change, front_tomb}
 use Rattle.rc_stream.specs.Places.{Reaches}
 use Rattle.rc_position.specs.Position.{pos_cmp}
 use Rattle.rc_stream.specs.Stream.{force, is_passed, is_upto, onward, opening, rest}
-use Rattle.rc_stream.specs.Merging.{IsOrdered, changes_nothing, place_of, together}
+use Rattle.rc_stream.specs.Merging.{IsOrdered, changes_nothing, place_of}
+use Rattle.rc_stream.specs.calls.Merging.{together}
 use Rattle.rc_stream.specs.calls.Merging.{beside}
 use Rattle.rc_stream.specs.Holding.{held_fragments, IsFrom, StandsOver, nearer, later}
+use Rattle.std.specs.FinMap.Entries.{by_order}
+
+-- which of two places is the smaller, where there are any
+abbrev pub turn_between : Option (Pos × ℕ) → Option (Pos × ℕ) → Turn
+turn_between None None = turn.Nobody
+turn_between None (Some q) = turn.Theirs
+turn_between (Some p) None = turn.Ours
+turn_between (Some p) (Some q) = by_order (place_order p q) turn.Ours turn.Both turn.Theirs
+
+-- which of two first fragments has the smaller place
+abbrev pub nearer : List Frag → List Frag → Turn
+nearer fs gs = turn_between (option_map place_of (first_of fs)) (option_map place_of (first_of gs))
+
+-- the later of two positions
+abbrev pub later : Pos → Pos → Pos
+later x y = cond (is_le (pos_cmp x y)) y x
 
 -- the range tombstone in force behind the first of fragments
 abbrev pub behind_first : Option Tomb → List Frag → Option Tomb

@@ -6,7 +6,7 @@ use Rattle.lsa_store.specs.Objects.{cells_of, cell_in, live_in}
 use Rattle.lsa_store.specs.Stored.{Stored}
 use Rattle.lsa_store.specs.laws.Places.{there_and}
 use Rattle.lsa_store.specs.laws.Sums.{count-within}
-use Rattle.lsa_region.specs.Ends.{swapped_ref}
+use Rattle.lsa_region.specs.calls.Ends.{swapped_ref}
 use Rattle.lsa_region.specs.calls.Moves.{view_in, IsSweeping}
 use Rattle.lsa_region.specs.Region.{IsWell}
 use Rattle.lsa_region.proofs.Sweeps.{swept-init, swept-gap, swept-move, cell_where, some-there, live-there}

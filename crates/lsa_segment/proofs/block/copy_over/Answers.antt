@@ -1,7 +1,7 @@
 use Rattle.std.proofs.Common.{◌+◌, [], ◌∷◌, take, drop, get_or, set, Some, sym, ap, ◌∙◌, arith}
 use Rattle.std.proofs.lemmas.List.{take_all}
 use Rattle.circular_buffer.specs.Places.{somes}
-use Rattle.lsa_segment.specs.Places.{written_places}
+use Rattle.lsa_segment.specs.calls.Places.{written_places}
 use Rattle.lsa_segment.proofs.Written.{map-some, next_byte, copying, run-count}
 use Rattle.lsa_segment.proofs.block.copy_over.Goals as goal
 

@@ -1,6 +1,6 @@
 use Rattle.std.proofs.Common.{◌≡◌, take, drop}
 use Rattle.circular_buffer.specs.Places.{somes}
-use Rattle.lsa_segment.specs.Places.{written_places}
+use Rattle.lsa_segment.specs.calls.Places.{written_places}
 use Rattle.lsa_segment.proofs.block.copy_over.Given as goal
 
 abbrev pub invariant-loop-index : goal.invariant-loop-index

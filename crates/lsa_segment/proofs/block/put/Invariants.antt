@@ -1,5 +1,5 @@
 use Rattle.std.proofs.Common.{◌≡◌, take}
-use Rattle.lsa_segment.specs.Places.{written_places}
+use Rattle.lsa_segment.specs.calls.Places.{written_places}
 use Rattle.lsa_segment.proofs.block.put.Given as goal
 
 abbrev pub invariant-loop-index : goal.invariant-loop-index

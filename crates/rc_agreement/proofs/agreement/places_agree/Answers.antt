@@ -8,7 +8,7 @@ use Rattle.std.proofs.Common.{List}
 use Rattle.rc_core.specs.Parts.{IsReach}
 use Rattle.rc_core.specs.Version.{end_position}
 use Rattle.rc_cursor.specs.Snapshots.{kind_seen, versions_seen}
-use Rattle.rc_agreement.specs.Agreement.{IsPlaceSaid}
+use Rattle.rc_agreement.specs.calls.Agreement.{IsPlaceSaid}
 use Rattle.rc_agreement.specs.calls.Walking.{AreSaid}
 use Rattle.rc_agreement.proofs.Ahead.{all-left, left-further, left-onward}
 use Rattle.rc_agreement.proofs.Ending.{reach-less}

@@ -1,5 +1,6 @@
 use Rattle.std.proofs.Common.{subst, sym}
-use Rattle.rc_core.specs.AtPlace.{EachEntry, FitsPlace, HasEntryAt}
+use Rattle.rc_core.specs.AtPlace.{EachEntry, HasEntryAt}
+use Rattle.rc_core.specs.calls.AtPlace.{FitsPlace}
 use Rattle.rc_core.specs.Slow.{plain}
 use Rattle.rc_core.specs.laws.Placed.{entries-of-placed, placed-by-entries}
 use Rattle.rc_core.proofs.place.is_at_place.Goals as goal

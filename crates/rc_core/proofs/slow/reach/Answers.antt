@@ -1,5 +1,5 @@
 use Rattle.std.proofs.Common.{arith, subst, map}
-use Rattle.rc_core.specs.Parts.{IsNearer}
+use Rattle.rc_core.specs.calls.Parts.{IsNearer}
 use Rattle.rc_core.specs.Slow.{plain}
 use Rattle.rc_core.proofs.Reaching.{next_version}
 use Rattle.rc_core.proofs.slow.reach.Goals as goal

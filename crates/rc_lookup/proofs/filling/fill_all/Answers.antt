@@ -1,7 +1,7 @@
 -- How far the fragments are filled at each round, and at the end.
 use Rattle.std.proofs.Common.{◌≡◌, ◌∷◌, None, sym, subst, arith}
 use Rattle.std.specs.Prelude.{◌-◌, drop, length, take}
-use Rattle.rc_cached.specs.Parts.{of_its_filler}
+use Rattle.rc_cached.specs.calls.Parts.{of_its_filler}
 use Rattle.rc_core.specs.Version.{end_position}
 use Rattle.rc_position.specs.declared.positions.Pos.{Pos}
 use Rattle.rc_rowcode.specs.Spelling.{KeyFits}

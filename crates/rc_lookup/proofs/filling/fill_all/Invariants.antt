@@ -2,7 +2,7 @@
 use Rattle.std.proofs.Common.{length}
 use Rattle.rc_rowcode.specs.Spelling.{KeyFits}
 use Rattle.rc_row_cache.specs.Crowding.{LosesWhereCrowded}
-use Rattle.rc_cached.specs.Parts.{of_its_filler}
+use Rattle.rc_cached.specs.calls.Parts.{of_its_filler}
 use Rattle.rc_lookup.specs.calls.Filling.{FragmentsFit, IsFilling}
 use Rattle.rc_lookup.proofs.filling.fill_all.Given as goal
 

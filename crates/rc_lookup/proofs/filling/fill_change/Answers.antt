@@ -3,7 +3,7 @@ use Rattle.std.proofs.Common.{sym, subst}
 use Rattle.rc_position.specs.declared.positions.Pos.{Pos}
 use Rattle.rc_rowcode.specs.Spelling.{KeyFits}
 use Rattle.rc_lookup.specs.calls.Filling.{SaysNone}
-use Rattle.rc_cached.specs.Parts.{of_its_filler}
+use Rattle.rc_cached.specs.calls.Parts.{of_its_filler}
 use Rattle.rc_lookup.proofs.Fills.{known-gap}
 use Rattle.rc_lookup.proofs.filling.fill_change.Goals as goal
 

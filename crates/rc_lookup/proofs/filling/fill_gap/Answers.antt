@@ -2,7 +2,7 @@
 use Rattle.std.proofs.Common.{ap, sym, ◌∙◌}
 use Rattle.std.specs.Ordering.{is_lt}
 use Rattle.rc_row_cache.specs.Crowds.{loses-nothing}
-use Rattle.rc_cached.specs.Parts.{of_its_filler}
+use Rattle.rc_cached.specs.calls.Parts.{of_its_filler}
 use Rattle.rc_lookup.proofs.Fills.{filled-none}
 use Rattle.rc_lookup.proofs.Orders.{never-before, not-lt, reach-through}
 use Rattle.rc_lookup.proofs.filling.fill_gap.Goals as goal

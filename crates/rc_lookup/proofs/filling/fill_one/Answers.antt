@@ -1,5 +1,5 @@
 -- What a row or a change makes known.
-use Rattle.rc_cached.specs.Parts.{of_its_filler}
+use Rattle.rc_cached.specs.calls.Parts.{of_its_filler}
 use Rattle.rc_lookup.proofs.Fills.{by-change, by-row}
 use Rattle.rc_lookup.proofs.Limits.{fit-change, fit-row, written-row}
 use Rattle.rc_lookup.proofs.filling.fill_one.Goals as goal

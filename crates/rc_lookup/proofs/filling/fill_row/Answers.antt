@@ -5,7 +5,7 @@ use Rattle.rc_position.specs.Position.{row_pos}
 use Rattle.rc_rowcode.specs.Spelling.{KeyFits}
 use Rattle.rc_row_cache.specs.Crowds.{loses-after}
 use Rattle.rc_lookup.specs.calls.Filling.{SaysNone}
-use Rattle.rc_cached.specs.Parts.{of_its_filler}
+use Rattle.rc_cached.specs.calls.Parts.{of_its_filler}
 use Rattle.rc_lookup.proofs.Fills.{filled-then, known-row}
 use Rattle.rc_lookup.proofs.filling.fill_row.Goals as goal
 

@@ -12,7 +12,8 @@ use Rattle.rc_memory.specs.Memory.{KeptChain, Member, Memory, chain_at}
 use Rattle.rc_row_cache.specs.Crowding.{LosesWhereCrowded}
 use Rattle.rc_row_cache.specs.Found.{entry_number}
 use Rattle.rc_row_cache.specs.Footprint.{HaveOneVersion, memtable_bytes}
-use Rattle.rc_lookup.specs.Known.{IsChainKnown, IsPartitionKnown, IsSnapKnown}
+use Rattle.rc_lookup.specs.Known.{IsChainKnown, IsPartitionKnown}
+use Rattle.rc_lookup.specs.calls.Known.{IsSnapKnown}
 use Rattle.rc_lookup.specs.Rest.{LeavesRest}
 use Rattle.rc_lookup.specs.Looked.{IsPartitionFound, IsLookedUp, IsStreamSaying, IsUnread}
 use Rattle.rc_lookup.specs.calls.Reading.{without_snap}

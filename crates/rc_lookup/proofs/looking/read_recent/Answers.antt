@@ -2,10 +2,11 @@
 use Rattle.std.proofs.Common.{sym, ap, ◌∙◌, subst, arith}
 use Rattle.std.specs.Prelude.{IfNone, IfOk, IfSome, Ok}
 use Rattle.rc_memory.specs.Memory.{HasChain, Memory}
-use Rattle.rc_lookup.specs.Known.{IsSnapKnown}
+use Rattle.rc_lookup.specs.calls.Known.{IsSnapKnown}
 use Rattle.rc_lookup.specs.Looked.{IsStreamSaying}
 use Rattle.rc_lookup.specs.calls.Reading.{without_snap}
-use Rattle.rc_lookup.specs.Touched.{IsMadeRecent, IsReordered}
+use Rattle.rc_lookup.specs.Touched.{IsMadeRecent}
+use Rattle.rc_lookup.specs.calls.Touched.{IsReordered}
 use Rattle.rc_lookup.proofs.Kept.{still-there}
 use Rattle.rc_lookup.proofs.Reordered.{same-reordered, touched-reordered}
 use Rattle.rc_lookup.proofs.looking.read_recent.Goals as goal

@@ -6,7 +6,7 @@ use Rattle.rc_core.specs.Version.{end_position}
 use Rattle.rc_cursor.specs.Snapshots.{Knows}
 use Rattle.rc_cacheread.specs.Passing.{IsKnownOver}
 use Rattle.rc_snapshots.specs.Streams.{first_position}
-use Rattle.rc_lookup.specs.Known.{IsSnapKnown}
+use Rattle.rc_lookup.specs.calls.Known.{IsSnapKnown}
 use Rattle.rc_lookup.specs.calls.Reading.{IsHeadSaid}
 use Rattle.rc_lookup.proofs.Kept.{where-found}
 use Rattle.rc_lookup.proofs.looking.read_snapshot.Goals as goal

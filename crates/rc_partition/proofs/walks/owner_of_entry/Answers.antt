@@ -1,5 +1,5 @@
 use Rattle.std.proofs.Common.{is_some, Some, sym, ap, ◌∙◌, arith}
-use Rattle.lsa_list.specs.Recency.{object_of}
+use Rattle.lsa_list.specs.calls.Recency.{object_of}
 use Rattle.rc_version.specs.Versions.{tree_of}
 use Rattle.rc_partition.proofs.Passing.{same_ref_of}
 use Rattle.rc_partition.proofs.walks.owner_of_entry.Goals as goal

@@ -1,6 +1,6 @@
 use Rattle.std.proofs.Common.{is_some, sym, ap, ◌∙◌, arith}
 use Rattle.lsa_region.specs.declared.end.End.TheVariants.{Obj}
-use Rattle.lsa_list.specs.Recency.{object_of}
+use Rattle.lsa_list.specs.calls.Recency.{object_of}
 use Rattle.rc_partition.proofs.Passing.{same_ref_of}
 use Rattle.rc_partition.proofs.walks.owner_of_static.Goals as goal
 

@@ -7,7 +7,7 @@ use Rattle.rc_core.specs.Steps.{row_filled, row_joined}
 use Rattle.rc_core.specs.Version.{On, state_at}
 use Rattle.rc_memory.specs.Changes.{AtAlone, IsRenewed, member_at}
 use Rattle.rc_populate.specs.Filling.{IsFilled}
-use Rattle.rc_populate.specs.Marked.{known_at}
+use Rattle.rc_populate.specs.calls.Marked.{known_at}
 use Rattle.rc_populate.proofs.Changed.{changed-both, last-free}
 use Rattle.rc_populate.proofs.Given.{row-left, row-spare}
 use Rattle.rc_populate.proofs.Pinned.{filled-then, fits-newest, has-newest, has-pin, list-then, newest-number, of-pinned, pinned-of, region-then, settled}

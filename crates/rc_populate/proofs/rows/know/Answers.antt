@@ -3,7 +3,7 @@ use Rattle.rc_core.specs.declared.entries.Mark.{Mark}
 use Rattle.rc_core.specs.Steps.{set_flags, set_tombs}
 use Rattle.rc_core.specs.Version.{Version}
 use Rattle.rc_memory.specs.Changes.{Nowhere}
-use Rattle.rc_populate.specs.Marked.{known_at}
+use Rattle.rc_populate.specs.calls.Marked.{known_at}
 use Rattle.rc_populate.proofs.Changed.{changed-alike, changed-both}
 use Rattle.rc_populate.proofs.Marking.{marked-known}
 use Rattle.rc_populate.proofs.rows.know.Goals as goal

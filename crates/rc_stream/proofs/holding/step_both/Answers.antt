@@ -2,7 +2,8 @@
 use Rattle.std.proofs.Common.{sym, ap, ◌∙◌, subst, cond}
 use Rattle.rc_cell.specs.Greatest.{greater}
 use Rattle.rc_cell.specs.Orders.{tomb_cmp}
-use Rattle.rc_stream.specs.Merging.{changes_nothing, together}
+use Rattle.rc_stream.specs.Merging.{changes_nothing}
+use Rattle.rc_stream.specs.calls.Merging.{together}
 use Rattle.rc_stream.specs.Holding.{held_fragments}
 use Rattle.rc_stream.specs.calls.Holding.{TakesFirst, fragment_step, look_past, row_of_both}
 use Rattle.rc_stream.proofs.Held.{no_ours, no_theirs, one-place, paired-is, took-one, dropped-together, silent-ours, silent-theirs, place-together, row-first}

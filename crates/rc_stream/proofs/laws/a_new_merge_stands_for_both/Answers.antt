@@ -1,6 +1,7 @@
 -- Each part holds nothing, so it is its stream, and no seek is due.
 use Rattle.std.proofs.Common.{refl, sym, subst}
-use Rattle.rc_stream.specs.Both.{AheadOfBoth, BothFresh, BothReady, IsDueAhead, MightBoth, SoughtBoth, SpotsOfBoth}
+use Rattle.rc_stream.specs.Both.{AheadOfBoth, BothFresh, MightBoth, SoughtBoth, SpotsOfBoth}
+use Rattle.rc_stream.specs.calls.Both.{BothReady, IsDueAhead}
 use Rattle.rc_stream.specs.Merging.{merged_stream}
 use Rattle.rc_stream.proofs.Showing.{alone}
 use Rattle.rc_stream.proofs.laws.a_new_merge_stands_for_both.Goals as goal

@@ -1,7 +1,8 @@
 -- What both say is as it was, and what was ahead still is.
 use Rattle.std.proofs.Common.{◌≡◌, ◌≤◌, ℕ, None, true}
 use Rattle.rc_position.specs.declared.positions.Pos.{Pos}
-use Rattle.rc_stream.specs.Both.{BothReady, HoldBoth, MaySeekBoth, SpotsOfBoth}
+use Rattle.rc_stream.specs.Both.{HoldBoth, MaySeekBoth, SpotsOfBoth}
+use Rattle.rc_stream.specs.calls.Both.{BothReady}
 use Rattle.rc_stream.specs.Stream.{Stream}
 use Rattle.rc_stream.specs.Did.{ReachesEnd, Many, OneCall, merge_state}
 use Rattle.rc_stream.specs.Moving.{Moved}

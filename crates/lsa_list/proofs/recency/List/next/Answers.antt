@@ -1,7 +1,7 @@
 use Rattle.std.proofs.Common.{ap, ◌∙◌, arith}
 use Rattle.lsa_region.specs.declared.end.End.TheVariants.{Obj}
 use Rattle.lsa_region.specs.Region.{link_of}
-use Rattle.lsa_list.specs.Recency.{object_of}
+use Rattle.lsa_list.specs.calls.Recency.{object_of}
 use Rattle.lsa_list.specs.laws.Lists.{recency-ends, recent-at, rest-path, first-object}
 use Rattle.lsa_list.proofs.recency.List.next.Goals as goal
 

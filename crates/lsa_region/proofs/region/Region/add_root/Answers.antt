@@ -1,7 +1,7 @@
 use Rattle.std.proofs.Common.{refl, subst, sym, ◌≡◌}
 use Rattle.std.specs.Prelude.{IfOk, OnErr, Ok, Err}
 use Rattle.std.specs.Prelude.{◌≡◌}
-use Rattle.lsa_region.specs.Ends.{IsSlotMade}
+use Rattle.lsa_region.specs.calls.Ends.{IsSlotMade}
 use Rattle.lsa_region.specs.Region.{View, IsRegion}
 use Rattle.lsa_region.proofs.Regions.{root-added, region-root-added}
 use Rattle.lsa_region.proofs.region.Region.add_root.Goals as goal

@@ -2,7 +2,7 @@ use Rattle.std.proofs.Common.{◌≡◌, ◌-◌, ◌+◌, ◌<◌, None, Some, 
 use Rattle.std.specs.Prelude.{count_by, is_some}
 use Rattle.std.proofs.Math.ListN.{set}
 use Rattle.std.proofs.lemmas.List.{get_or_read, length-set}
-use Rattle.lsa_region.specs.Ends.{IsSlotMade}
+use Rattle.lsa_region.specs.calls.Ends.{IsSlotMade}
 use Rattle.lsa_region.proofs.Vacancies.{vacancy-last, vacancy-take}
 use Rattle.lsa_region.proofs.SlotsLaws.{slot-made}
 use Rattle.lsa_region.proofs.slots.Slots.make_again.Goals as goal

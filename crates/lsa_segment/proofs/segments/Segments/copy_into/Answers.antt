@@ -1,7 +1,8 @@
 use Rattle.std.proofs.Common.{subst, length-take, length-drop, ◌≡◌, ◌+◌, ◌*◌, [], length, get_or, set, take, drop, sym, ap, ◌∙◌, arith}
 use Rattle.circular_buffer.specs.Places.{somes}
 use Rattle.lsa_segment.specs.Bytes.{part}
-use Rattle.lsa_segment.specs.Places.{written_places, used_bytes, AreLaid}
+use Rattle.lsa_segment.specs.Places.{used_bytes, AreLaid}
+use Rattle.lsa_segment.specs.calls.Places.{written_places}
 use Rattle.lsa_segment.proofs.Written.{somes-map}
 use Rattle.lsa_segment.proofs.Held.{segment, known-used, lent, appended, counted, ends_apart}
 use Rattle.lsa_segment.proofs.segments.Segments.copy_into.Goals as goal

@@ -1,5 +1,6 @@
 use Rattle.std.proofs.Common.{subst, ◌≡◌, ◌+◌, ◌*◌, length, get_or, set, sym, ap, ◌∙◌, arith}
-use Rattle.lsa_segment.specs.Places.{written_places, used_bytes, AreLaid}
+use Rattle.lsa_segment.specs.Places.{used_bytes, AreLaid}
+use Rattle.lsa_segment.specs.calls.Places.{written_places}
 use Rattle.lsa_segment.proofs.Held.{segment, known-used, appended, counted}
 use Rattle.lsa_segment.proofs.segments.Segments.push.Goals as goal
 

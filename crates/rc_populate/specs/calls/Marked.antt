@@ -1,4 +1,4 @@
--- What is said at an entry of a version, once a row was filled there.
+-- What is said at an entry of a version, once a row was filled there: what inner functions promise each other.
 use Rattle.std.specs.Prelude.{Option}
 use Rattle.rc_cell.specs.declared.writes.Tomb.{Tomb}
 use Rattle.rc_position.specs.declared.positions.Pos.{Pos}

@@ -1,5 +1,5 @@
--- The words of a cached stream's parts.
---     of_snapshot      a snapshot over the chains
+-- The words of a cached stream's parts: what inner functions promise each other.
+--     of_snapshot    a snapshot over the chains
 --     of_underlying    what lies below it
 --     of_its_filler    what fills it
 use Rattle.std.specs.Prelude.{⊤, ℕ}

@@ -1,4 +1,4 @@
--- The search for the sparsest segment.
+-- The search for the sparsest segment: what inner functions promise each other.
 use Rattle.std.specs.Prelude.{◌≡◌, ◌≢◌, ℕ, ◌<◌, ◌≤◌, List, Option, Some, None}
 use Rattle.lsa_pool.specs.declared.Usage.{Usage}
 use Rattle.lsa_pool.specs.declared.State.TheVariants.{Closed}

@@ -1,0 +1,6 @@
+-- The places of a block, each unset or a byte, in equal parts: the segments: what inner functions promise each other.
+use Rattle.std.specs.Prelude.{ℕ, ◌+◌, List, ◌++◌, length, map, take, drop, Option, Some}
+
+-- the places with these bytes in as many of them, from the index on
+abbrev pub written_places : List (Option ℕ) → ℕ → List ℕ → List (Option ℕ)
+written_places places from bytes = take from places ++ (map Some bytes ++ drop (from + length bytes) places)

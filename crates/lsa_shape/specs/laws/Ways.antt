@@ -1,0 +1,10 @@
+-- A place in a tree: the way from there to the top: the words of laws.
+use Rattle.std.specs.Prelude.{◌≡◌, ◌⊎◌, List, [], ◌∷◌}
+use Rattle.lsa_path.specs.Ref.{Ref}
+use Rattle.lsa_shape.specs.Shapes.{IsIn}
+use Rattle.lsa_shape.specs.Ways.{Fork}
+
+-- the object is one of those around the place
+abbrev pub IsAround : Ref → List Fork → Type 0
+IsAround z [] = ⊥
+IsAround z (ForkAt flank r beside ∷ way) = (z ≡ r) ⊎ (IsIn z beside ⊎ IsAround z way)

@@ -1,0 +1,13 @@
+-- Whether versions agree with writes: what they know is what the writes say: what inner functions promise each other.
+--     IsPlaceSaid    what is known at a position is what writes say there
+use Rattle.std.specs.Prelude.{List}
+use Rattle.rc_position.specs.declared.positions.Pos.{Pos}
+use Rattle.rc_mutation.specs.declared.mutations.Mutation.{Mutation}
+use Rattle.rc_core.specs.declared.entries.ChainKind.{ChainKind}
+use Rattle.rc_core.specs.Version.{Version}
+use Rattle.rc_stream.specs.Snapshot.{SayThere, There}
+use Rattle.rc_cursor.specs.Snapshots.{IsKnownAs}
+
+-- what is known at a position is what writes say there
+abbrev pub IsPlaceSaid : ChainKind → List Version → List Mutation → Pos → Type 0
+IsPlaceSaid kind versions writes x = (v : There) → IsKnownAs kind versions x v → SayThere writes x v

@@ -1,0 +1,7 @@
+-- What `greatest` gives in a total order in which only equal values tie: what inner functions promise each other.
+use Rattle.std.specs.Prelude.{Bool, true, false, List, [], ◌∷◌}
+
+-- the list is empty
+abbrev pub is_nil : {K : Type 0} → List K → Bool
+is_nil [] = true
+is_nil (x ∷ xs) = false

@@ -1,0 +1,14 @@
+-- The first part of a snapshot from a place on, by what is seen there: what inner functions promise each other.
+use Rattle.std.specs.Prelude.{◌≡◌, ◌⊎◌, List}
+use Rattle.rc_position.specs.declared.positions.Pos.{Pos}
+use Rattle.rc_position.specs.Position.{IsBefore}
+use Rattle.rc_core.specs.declared.entries.Entry.{Entry}
+use Rattle.rc_core.specs.AtPlace.{HasEntryAt}
+use Rattle.rc_core.specs.Parts.{IsClear}
+
+-- the same by the entries of one version, where the gap ends at `to` at the latest
+pub record IsNearer (x to found : Pos) (entries : List Entry) : Type 0 where
+  pub ahead : IsBefore x found
+  pub within : (found ≡ to) ⊎ IsBefore found to
+  pub clear : IsClear x found entries
+  pub stops : (found ≡ to) ⊎ HasEntryAt found entries
