@@ -6,6 +6,7 @@ pub mod ByColumn
 pub mod Beats
 pub mod Survivors
 pub mod Greatest
+pub mod Winner
 use Rattle.std.specs.Prelude.{ℕ, ℤ, List, [], ◌∷◌, ◌++◌, Option, Some, None, ◌≡◌}
 use Rattle.std.proofs.Common.{refl, sym, ap, ◌∙◌, append-nil}
 use Rattle.std.specs.Ordering.{nat_cmp, int_cmp}
@@ -147,4 +148,3 @@ SaysNoMore-joined_row r q g h = sym (joined_row-assoc r r q g h) ∙ ap (λ x. j
 
 pub joined_row-SaysNoMore : (r q p : Row) → IsRow r → IsRow p → SaysNoMore r p → SaysNoMore q p → SaysNoMore (joined_row (r ∷ q ∷ [])) p
 joined_row-SaysNoMore r q p g h e f = joined_row-assoc r q p g h ∙ ap (λ x. joined_row (r ∷ x ∷ [])) f ∙ e
-pub mod Winner

@@ -1,4 +1,4 @@
--- The recency list: the references on the path between its two root slots, the least recent first: what inner functions promise each other.
+-- Which object the recency list has at a place.
 use Rattle.std.specs.Prelude.{Option, Some, None}
 use Rattle.lsa_region.specs.Ref.{Ref}
 use Rattle.lsa_region.specs.declared.end.End.{End}

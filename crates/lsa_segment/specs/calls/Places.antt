@@ -1,4 +1,4 @@
--- The places of a block, each unset or a byte, in equal parts: the segments: what inner functions promise each other.
+-- A block once bytes are written into it.
 use Rattle.std.specs.Prelude.{ℕ, ◌+◌, List, ◌++◌, length, map, take, drop, Option, Some}
 
 -- the places with these bytes in as many of them, from the index on

@@ -1,4 +1,4 @@
--- Balanced trees: how deep, by the balance of each object: what inner functions promise each other.
+-- How many objects a balanced tree has.
 use Rattle.std.specs.Prelude.{ℕ, suc, ◌+◌}
 use Rattle.lsa_shape.specs.Shapes.{TreeShape, Leaf, Node}
 

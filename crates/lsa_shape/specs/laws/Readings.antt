@@ -1,4 +1,4 @@
--- What links say of a tree: its shape, read downward, and the way upward: the words of laws.
+-- What links say of a tree, read from an end on, in laws: its shape, downward, and how long the way up is.
 use Rattle.std.specs.Prelude.{ℕ, zero, suc, nat_eq, cond, Option, Some, None}
 use Rattle.lsa_path.specs.Ref.{Ref}
 use Rattle.lsa_path.specs.End.{End}

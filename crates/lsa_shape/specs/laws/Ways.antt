@@ -1,4 +1,4 @@
--- A place in a tree: the way from there to the top: the words of laws.
+-- What stands around a place in a tree, in laws.
 use Rattle.std.specs.Prelude.{◌≡◌, ◌⊎◌, List, [], ◌∷◌}
 use Rattle.lsa_path.specs.Ref.{Ref}
 use Rattle.lsa_shape.specs.Shapes.{IsIn}

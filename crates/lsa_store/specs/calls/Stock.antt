@@ -1,4 +1,4 @@
--- How much room the segments of a store have, and which of them is emptied next: what inner functions promise each other.
+-- What inner calls of a store did to the room of its segments.
 use Rattle.std.specs.Prelude.{◌≡◌, ℕ, ◌+◌, ◌<◌, ◌⊎◌, List, length, slice_set, Some}
 use Rattle.lsa_pool.specs.declared.Usage.{Usage}
 use Rattle.lsa_pool.specs.Room.{usage_of, free_count, live_sum, active_of, active_room}

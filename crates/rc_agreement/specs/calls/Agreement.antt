@@ -1,4 +1,4 @@
--- Whether versions agree with writes: what they know is what the writes say: what inner functions promise each other.
+-- What writes say at one place, as inner functions compare it.
 --     IsPlaceSaid    what is known at a position is what writes say there
 use Rattle.std.specs.Prelude.{List}
 use Rattle.rc_position.specs.declared.positions.Pos.{Pos}

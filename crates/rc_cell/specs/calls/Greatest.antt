@@ -1,4 +1,4 @@
--- What `greatest` gives in a total order in which only equal values tie: what inner functions promise each other.
+-- Whether there is nothing to choose the greatest of.
 use Rattle.std.specs.Prelude.{Bool, true, false, List, [], ◌∷◌}
 
 -- the list is empty

@@ -1,4 +1,4 @@
--- Which write wins: the reconciliation that Cassandra and ScyllaDB share. This is the one place where its rules stand: the words of laws.
+-- Words of the laws on which write wins.
 use Rattle.std.specs.Prelude.{ℕ, List, [], ◌∷◌, ◌≡◌}
 use Rattle.rc_cell.specs.declared.writes.Cell.{Cell}
 use Rattle.rc_cell.specs.declared.rows.Row.{Row}

@@ -1,4 +1,4 @@
--- A version under update, as it stands at the update's place: what inner functions promise each other.
+-- A version under update at the update's place, as inner functions find it.
 use Rattle.std.specs.Prelude.{◌≡◌, None}
 use Rattle.std.specs.declared.cmp.Ordering.{Ordering}
 use Rattle.std.specs.declared.cmp.Ordering.TheVariants.{Less, Equal, Greater}

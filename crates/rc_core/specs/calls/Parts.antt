@@ -1,4 +1,4 @@
--- The first part of a snapshot from a place on, by what is seen there: what inner functions promise each other.
+-- Which of two places is nearer, for inner functions here and above.
 use Rattle.std.specs.Prelude.{◌≡◌, ◌⊎◌, List}
 use Rattle.rc_position.specs.declared.positions.Pos.{Pos}
 use Rattle.rc_position.specs.Position.{IsBefore}

@@ -1,4 +1,4 @@
--- What the row cache knows of a partition, whole: what inner functions promise each other.
+-- What a snapshot knows of a partition, whole.
 --     IsSnapKnown    so it is to a snapshot
 use Rattle.rc_memory.specs.Memory.{Memory}
 use Rattle.rc_chain.specs.declared.chains.Snap.{Snap}

@@ -1,4 +1,4 @@
--- How what is read of the cache becomes the most recent of its recency list: what inner functions promise each other.
+-- What inner calls did to the recency list.
 --     IsChainTouched    so they are, and nothing else changed
 --     IsReordered    the recency list has its members in some order, and nothing else changed
 use Rattle.std.specs.Prelude.{◌≡◌, ℕ, Contains}

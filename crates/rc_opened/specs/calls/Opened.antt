@@ -1,4 +1,4 @@
--- What is left to an open reader over the chains that its snapshots are of: what inner functions promise each other.
+-- What an open reader reads, as it is made.
 --     AreSources    what an open reader reads, as it is made
 use Rattle.rc_mutation.specs.declared.mutations.Mutation.{Mutation}
 use Rattle.rc_mutation.specs.Fragments.{fragments}
