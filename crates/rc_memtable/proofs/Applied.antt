@@ -22,7 +22,7 @@ use Rattle.rc_memtable.specs.Writes.{HasWrites, IsNewestPinned, TakesVersion, ch
 use Rattle.rc_memtable.specs.Steps.{AreOthersKept, IsApplied}
 use Rattle.rc_memtable.specs.calls.Steps.{IsChangeWritten, chains_bytes}
 use Rattle.rc_memtable.proofs.Fitting.{new-fits}
-use Rattle.rc_memtable.proofs.Grown.{made-more}
+use Rattle.rc_memtable.proofs.Grown.{DiffersBy, made-differs}
 use Rattle.rc_memtable.proofs.Named.{changes-more, key-differs, key-is, key-itself, key-or-not, names-more, unnamed}
 use Rattle.rc_memtable.proofs.Steps.{chain-beside, chain-is, kept-then}
 
@@ -61,7 +61,7 @@ version-taken m o none h = h (subst (TakesVersion m) (sym none) tt)
 
 -- ---- one write more
 
-module _ (schema : SchemaValue) (w : Write) (old new : Memory) (id : ℕ) (h : IsChangeWritten schema id w.change 360 old new) where
+module _ (S : ℕ) (schema : SchemaValue) (w : Write) (old new : Memory) (id : ℕ) (h : IsChangeWritten S schema id w.change 360 old new) where
   -- what a chain keeps, of the key of the write and of another key
   more-here : (key : List ℕ) (writes : List Write) → eq_by_cmp bytes_cmp w.key key ≡ true → changes_to key (writes ++ w ∷ []) ≡ changes_to key writes ++ w.change ∷ []
   more-here key writes here = changes-more key writes w ∙ ap (λ b. cond b (changes_to key writes ++ w.change ∷ []) (changes_to key writes)) here
@@ -96,7 +96,7 @@ module _ (schema : SchemaValue) (w : Write) (old new : Memory) (id : ℕ) (h : I
       apart = a.apart;
     }
 
-    pub found-applied : live_bytes old.region ≡ chains_bytes old → live_bytes new.region ≡ chains_bytes new → IsApplied schema w chains chains old new
+    pub found-applied : live_bytes old.region ≡ chains_bytes old → live_bytes new.region ≡ chains_bytes new → IsApplied S schema w chains chains old new
     found-applied live live_now = record {
       stands = found-stands;
       id = id;
@@ -107,11 +107,12 @@ module _ (schema : SchemaValue) (w : Write) (old new : Memory) (id : ℕ) (h : I
       made = λ none. absurd (no_some id (sym none ∙ found));
       others = h.others;
       grows = let grown = h.grows in omega (arith, grown, live, live_now);
+      shrinks = let kept = h.shrinks in omega (arith, kept, live, live_now);
     }
 
 -- ---- into a new chain
 
-module _ (schema : SchemaValue) (w : Write) (old mid new : Memory) (id : ℕ) (made : IsChainMade id Memtable None 0 old.recency old mid) (h : IsChangeWritten schema id w.change 360 mid new)
+module _ (S : ℕ) (schema : SchemaValue) (w : Write) (old mid new : Memory) (id : ℕ) (made : IsChainMade id Memtable None 0 old.recency old mid) (h : IsChangeWritten S schema id w.change 360 mid new)
     (before now : List (List ℕ × ℕ)) (none : chain_of before w.key ≡ None) (keys : (q : List ℕ) → chain_of now q ≡ cond (eq_by_cmp bytes_cmp w.key q) (Some id) (chain_of before q)) where
   made-there : chain_at mid id ≡ Some (chain_of_new Memtable None 0)
   made-there = made-now old mid id made
@@ -136,7 +137,7 @@ module _ (schema : SchemaValue) (w : Write) (old mid new : Memory) (id : ℕ) (m
   not-new : (writes : List Write) → HasWrites schema before old writes → (key : List ℕ) (i : ℕ) → chain_of before key ≡ Some i → i ≡ id → ⊥
   not-new writes a key i e same = let k = a.kept key i e in no_some k.0 (sym made.vacant ∙ ap (chain_at old) (sym same) ∙ k.1)
 
-  first-change : Kept schema w mid new id h mid id []
+  first-change : Kept S schema w mid new id h mid id []
   first-change = (chain_of_new Memtable None 0, made-there, fresh-kept schema)
 
   new-stands : (writes : List Write) → HasWrites schema before old writes → HasWrites schema now new (writes ++ w ∷ [])
@@ -144,14 +145,14 @@ module _ (schema : SchemaValue) (w : Write) (old mid new : Memory) (id : ℕ) (m
     keys = λ key. key-or-not (is_some (chain_of now key) ≡ names key (writes ++ w ∷ [])) (eq_by_cmp bytes_cmp w.key key)
         (λ here. ap is_some (here-now key here) ∙ sym (names-more key writes w ∙ ap (λ b. cond b true (names key writes)) here))
         (λ there. ap is_some (there-now key there) ∙ a.keys key ∙ sym (names-more key writes w ∙ ap (λ b. cond b true (names key writes)) there));
-    kept = λ key i e. key-or-not (Kept schema w mid new id h new i (changes_to key (writes ++ w ∷ []))) (eq_by_cmp bytes_cmp w.key key)
+    kept = λ key i e. key-or-not (Kept S schema w mid new id h new i (changes_to key (writes ++ w ∷ []))) (eq_by_cmp bytes_cmp w.key key)
         (λ here. let same : id ≡ i = same_some id i (sym (here-now key here) ∙ e) in
         let unwritten : changes_to key writes ≡ [] = unnamed key writes (sym (a.keys key) ∙ ap is_some (ap (chain_of before) (sym (key-is w.key key here)) ∙ none)) in
-        subst (λ (n : ℕ). Kept schema w mid new id h new n (changes_to key (writes ++ w ∷ []))) same
-        (subst (Kept schema w mid new id h new id) (sym (more-here schema w mid new id h key writes here ∙ ap (λ cs. cs ++ w.change ∷ []) unwritten)) (one-more schema w mid new id h [] first-change)))
+        subst (λ (n : ℕ). Kept S schema w mid new id h new n (changes_to key (writes ++ w ∷ []))) same
+        (subst (Kept S schema w mid new id h new id) (sym (more-here S schema w mid new id h key writes here ∙ ap (λ cs. cs ++ w.change ∷ []) unwritten)) (one-more S schema w mid new id h [] first-change)))
         (λ there. let was = sym (there-now key there) ∙ e in let k = a.kept key i was in let ne = not-new writes a key i was in
-        subst (Kept schema w mid new id h new i) (sym (more-there schema w mid new id h key writes there))
-        (as-before schema w mid new id h i (changes_to key writes) ne (k.0, made-others.others i ne ∙ k.1, k.2)));
+        subst (Kept S schema w mid new id h new i) (sym (more-there S schema w mid new id h key writes there))
+        (as-before S schema w mid new id h i (changes_to key writes) ne (k.0, made-others.others i ne ∙ k.1, k.2)));
     apart = λ key other i e f. key-or-not (key ≡ other) (eq_by_cmp bytes_cmp w.key key)
         (λ here. key-or-not (key ≡ other) (eq_by_cmp bytes_cmp w.key other)
         (λ also. sym (key-is w.key key here) ∙ key-is w.key other also)
@@ -161,7 +162,10 @@ module _ (schema : SchemaValue) (w : Write) (old mid new : Memory) (id : ℕ) (m
         (λ apart. a.apart key other i (sym (there-now key there) ∙ e) (sym (there-now other apart) ∙ f)));
   }
 
-  pub new-applied : live_bytes old.region ≡ chains_bytes old → live_bytes new.region ≡ chains_bytes new → IsApplied schema w before now old new
+  made-first : DiffersBy 152 0 (chains_bytes old) (chains_bytes mid)
+  made-first = made-differs old mid id made.vacant made.chains
+
+  pub new-applied : live_bytes old.region ≡ chains_bytes old → live_bytes new.region ≡ chains_bytes new → IsApplied S schema w before now old new
   new-applied live live_now = record {
     stands = new-stands;
     id = id;
@@ -169,5 +173,6 @@ module _ (schema : SchemaValue) (w : Write) (old mid new : Memory) (id : ℕ) (m
     had = λ n e. absurd (no_some n (sym none ∙ e));
     made = λ e. (made.vacant, made.told);
     others = kept-then id old mid new made-others h.others;
-    grows = let first = made-more old mid id made.vacant made.chains in let grown = h.grows in omega (arith, first, grown, live, live_now);
+    grows = let first = made-first.0 in let grown = h.grows in omega (arith, first, grown, live, live_now);
+    shrinks = let first = made-first.1 in let kept = h.shrinks in omega (arith, first, kept, live, live_now);
   }

@@ -1,5 +1,5 @@
 -- Each part ends ahead, and fewer entries are left behind it.
-use Rattle.std.proofs.Common.{◌≡◌, ◌≢◌, ◌⊎◌, ⊎_elim, inl, inr, ◌+◌, ◌<◌, ◌≤◌, ℕ, List, [], ◌∷◌, Option, Some, None, length, refl, sym, ap, ◌∙◌, subst, arith, append-nil}
+use Rattle.std.proofs.Common.{◌≡◌, ◌⊎◌, ⊎_elim, inl, inr, ◌+◌, ◌<◌, ◌≤◌, ℕ, List, [], ◌∷◌, Option, length, refl, sym, ap, ◌∙◌, subst, arith, append-nil}
 use Rattle.std.specs.declared.cmp.Ordering.{Ordering}
 use Rattle.std.specs.declared.cmp.Ordering.TheVariants.{Less, Equal, Greater}
 use Rattle.std.specs.Ordering.{ordering_reverse}
@@ -27,7 +27,7 @@ use Rattle.rc_core.specs.Version.{EndsWithDummy, IsVersion, On, Version, end_pos
 use Rattle.rc_core.specs.laws.Written.{memtable-known, row-at-key}
 use Rattle.rc_memtable.specs.calls.Reading.{EndsAhead, SayChanges}
 use Rattle.rc_memtable.proofs.Standing.{row-stands}
-use Rattle.rc_memtable.proofs.Whole.{after, before-end}
+use Rattle.rc_memtable.proofs.Whole.{after}
 
 turn-to : (x y : Pos) (r : Ordering) → pos_cmp x y ≡ r → pos_cmp y x ≡ ordering_reverse r
 turn-to x y r e = pos_cmp_total.antisymm y x ∙ ap ordering_reverse e

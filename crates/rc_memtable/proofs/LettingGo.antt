@@ -18,7 +18,7 @@ use Rattle.rc_memtable.specs.laws.NoMore.{counts-same, no-more-itself, no-more-t
 use Rattle.rc_memtable.specs.Writes.{chain_of}
 use Rattle.rc_memtable.specs.calls.Steps.{chains_bytes}
 use Rattle.rc_memtable.specs.calls.Writing.{AreMemtables}
-use Rattle.rc_memtable.proofs.Grown.{chain-more}
+use Rattle.rc_memtable.proofs.Grown.{chain-differs}
 use Rattle.rc_memtable.proofs.Named.{key-differs}
 use Rattle.rc_memtable.proofs.Steps.{chain-beside, chain-now, is-chain, of-chain}
 use Rattle.rc_memtable.proofs.Freed.{put-put}
@@ -48,7 +48,7 @@ module _ (id : ℕ) (old mid new : Memory) (memtable : IsSomeAnd (chain_at old i
     counts = d.2.counts;
     budget = d.2.region.budget;
     moved = d.2.region.moved;
-    live = let same = chain-more old mid id (on_shown shown_detached) 0 its.0 d.2.chains its.1 (omega arith) in omega (arith, same, live, live_mid);
+    live = let same = (chain-differs old mid id (on_shown shown_detached) 0 0 its.0 d.2.chains its.1 (omega arith, omega arith)).0 in omega (arith, same, live, live_mid);
   }
 
   mid-there : chain_at mid id ≡ Some (on_shown shown_detached its.0)

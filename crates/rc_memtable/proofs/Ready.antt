@@ -33,7 +33,7 @@ use Rattle.rc_memtable.specs.Fits.{IsEntryUnder, IsVersionUnder}
 use Rattle.rc_memtable.specs.calls.Steps.{IsChangeWritten}
 use Rattle.rc_memtable.specs.calls.Writing.{CanJoinNewest}
 use Rattle.rc_memtable.proofs.Fitting.{joined-static, joined-there, on-fits, row-fits, statics-fit}
-use Rattle.rc_memtable.proofs.Grown.{pt-bytes, range-bytes, row-bytes, statics-bytes, weight-pt, weight-range, weight-row, weight-statics}
+use Rattle.rc_memtable.proofs.Grown.{DiffersBy, pt-bytes, pt-least, range-bytes, range-least, row-bytes, row-least, statics-bytes, statics-least, weight-pt, weight-range, weight-row, weight-statics}
 use Rattle.rc_memtable.proofs.Kept.{pt-kept, range-kept, row-kept, statics-kept}
 use Rattle.rc_memtable.proofs.Room.{entry-small, fit-together, static-small}
 use Rattle.rc_memtable.proofs.Steps.{fits-then, its-form, its-number, its-sound, last-listed, last-then, list-kept, of-fitting, range-list-kept, written-there}
@@ -71,16 +71,28 @@ module _ (S : ℕ) (schema : SchemaValue) (m : Memory) (id number bytes : ℕ) (
   fits-by : (f : Version → Version) → ((v : Version) → IsVersionUnder schema v → IsVersionUnder schema (f v)) → FitsChanged S id number f m
   fits-by f keeps = fits-then m id r.kept.0 r.kept.2 sound versions number r.kept.3.0 S f (fit-together schema r.limits S r.small _ (on-fits schema number f keeps r.kept.0.chain.versions r.kept.4.fits))
 
-  -- what a version takes more with something joined each of them takes more that is sound and of the schema
-  each-grows : (f : Version → Version) (more : ℕ) → ((v : Version) → IsVersion v → IsVersionUnder schema v → version_bytes (f v) ≤ version_bytes v + more) → EachOf (λ v. version_bytes (f v) ≤ version_bytes v + more) r.kept.0.chain.versions
-  each-grows f more grows = each-of-two IsVersion (IsVersionUnder schema) (λ v. version_bytes (f v) ≤ version_bytes v + more) grows r.kept.0.chain.versions (its-form m id r.kept.0 r.kept.2 sound versions).versions r.kept.4.fits
+  -- what a version takes more or less with something joined each of them takes more or less that is sound and of the schema
+  each-differs : (f : Version → Version) (more : ℕ) → ((v : Version) → IsVersion v → IsVersionUnder schema v → DiffersBy more (S / 8) (version_bytes v) (version_bytes (f v))) → EachOf (λ v. DiffersBy more (S / 8) (version_bytes v) (version_bytes (f v))) r.kept.0.chain.versions
+  each-differs f more both = each-of-two IsVersion (IsVersionUnder schema) (λ v. DiffersBy more (S / 8) (version_bytes v) (version_bytes (f v))) both r.kept.0.chain.versions (its-form m id r.kept.0 r.kept.2 sound versions).versions r.kept.4.fits
+
+  -- a row that is there takes at most an eighth of a segment, and so does a static row
+  rows-small : (es : List Entry) → EachEntry (IsEntryUnder schema) es → EachEntry (λ e. IfSome e.row (λ row. bytes_at e.position (Some row) ≤ S / 8)) es
+  rows-small [] h = tt
+  rows-small (e ∷ es) h = (
+    if-some (λ row. (e.position ≡ row_pos e.position.prefix) × IsRowOf schema e.position.prefix row × IsRow row) (λ row. bytes_at e.position (Some row) ≤ S / 8) e.row
+        (λ row k. let s = entry-small schema r.limits e.position.prefix row k.1 k.2 in let most = r.small.entry in subst (λ (x : Pos). bytes_at x (Some row) ≤ S / 8) (sym k.0) (omega (arith, s, most))) h.0.row,
+    rows-small es h.1,
+  )
+
+  statics-small : (o : Option Row) → IfSome o (λ row. IsStaticOf schema row × IsRow row) → IfSome o (λ row. static_size row ≤ S / 8)
+  statics-small o h = if-some (λ row. IsStaticOf schema row × IsRow row) (λ row. static_size row ≤ S / 8) o (λ row k. let s = static-small schema r.limits row k.0 k.1 in let most = r.small.statics in omega (arith, s, most)) h
 
   -- ---- a partition tombstone
 
-  pub pt-there : (tomb : Tomb) (n : Memory) → IsVersionChanged id number (join_pt tomb) Nowhere m n → n.recency ≡ m.recency → (other : SchemaValue) → IsChangeWritten other id (written_pt tomb) 512 m n
-  pt-there tomb n h list other = written-there m id r.kept.0 r.kept.2 sound versions number r.kept.3.0 r.kept.3.1 other (written_pt tomb) (join_pt tomb) Nowhere n (λ w no. absurd no) h list
+  pub pt-there : (tomb : Tomb) (n : Memory) → IsVersionChanged id number (join_pt tomb) Nowhere m n → n.recency ≡ m.recency → (other : SchemaValue) → IsChangeWritten S other id (written_pt tomb) 512 m n
+  pt-there tomb n h list other = written-there m id r.kept.0 r.kept.2 sound versions number r.kept.3.0 r.kept.3.1 S other (written_pt tomb) (join_pt tomb) Nowhere n (λ w no. absurd no) h list
       (λ changes keeps. pt-kept other r.kept.0.chain number r.kept.3.0 (its-form m id r.kept.0 r.kept.2 sound versions) changes keeps tomb)
-      0 (weight-pt tomb) (each-grows (join_pt tomb) 0 (λ v is under. pt-bytes tomb v))
+      0 (weight-pt tomb) (each-differs (join_pt tomb) 0 (λ v is under. (pt-bytes tomb v, pt-least (S / 8) v tomb)))
 
   -- ---- a row
 
@@ -100,12 +112,13 @@ module _ (S : ℕ) (schema : SchemaValue) (m : Memory) (id number bytes : ℕ) (
 
   pub row-there : (key : List Comp) (row : Row) (n : Memory) → IsVersionChanged id number (row_joined (row_pos key) row) (AtAlone (member_at id number (Some (row_pos key)))) m n →
       OfVersion m id number (λ k v. IsRenewed k.chain.kind (member_at id number (Some (row_pos key))) m.recency n.recency) →
-      (other : SchemaValue) → IsRowOf other key row → IsRow row → IsChangeWritten other id (written_row key row) 512 m n
-  row-there key row n c list other h up = written-there m id r.kept.0 r.kept.2 sound versions number r.kept.3.0 r.kept.3.1 other (written_row key row) (row_joined (row_pos key) row) (AtAlone (member_at id number (Some (row_pos key)))) n
+      (other : SchemaValue) → IsRowOf other key row → IsRow row → IsChangeWritten S other id (written_row key row) 512 m n
+  row-there key row n c list other h up = written-there m id r.kept.0 r.kept.2 sound versions number r.kept.3.0 r.kept.3.1 S other (written_row key row) (row_joined (row_pos key) row) (AtAlone (member_at id number (Some (row_pos key)))) n
       (λ w at. ap (λ (x : Member). x.chain) at) c (list-kept m id r.kept.0 r.kept.2 sound versions number r.kept.3.0 r.kept.4.kind (member_at id number (Some (row_pos key))) n list)
       (λ changes keeps. row-kept other r.kept.0.chain number r.kept.3.0 (its-form m id r.kept.0 r.kept.2 sound versions) changes keeps key row h up)
       (entry_weight (row_pos key) + length (row_code row)) (weight-row key row)
-      (each-grows (row_joined (row_pos key) row) (entry_weight (row_pos key) + length (row_code row)) (λ v is under. row-bytes (row_pos key) row v up is (rows-under schema v.entries under.entries)))
+      (each-differs (row_joined (row_pos key) row) (entry_weight (row_pos key) + length (row_code row))
+      (λ v is under. (row-bytes (row_pos key) row v up is (rows-under schema v.entries under.entries), row-least (S / 8) v (row_pos key) row up is (rows-small v.entries under.entries))))
 
   -- ---- a static row
 
@@ -122,12 +135,12 @@ module _ (S : ℕ) (schema : SchemaValue) (m : Memory) (id number bytes : ℕ) (
 
   pub static-there : (row : Row) (n : Memory) → IsVersionChanged id number (join_flagged_statics row Inherit) (AtAlone (member_at id number None)) m n →
       OfVersion m id number (λ k v. IsRenewed k.chain.kind (member_at id number None) m.recency n.recency) →
-      (other : SchemaValue) → IsStaticOf other row → IsRow row → is_written row ≡ true → IsChangeWritten other id (written_statics row) 512 m n
-  static-there row n c list other h up some = written-there m id r.kept.0 r.kept.2 sound versions number r.kept.3.0 r.kept.3.1 other (written_statics row) (join_flagged_statics row Inherit) (AtAlone (member_at id number None)) n
+      (other : SchemaValue) → IsStaticOf other row → IsRow row → is_written row ≡ true → IsChangeWritten S other id (written_statics row) 512 m n
+  static-there row n c list other h up some = written-there m id r.kept.0 r.kept.2 sound versions number r.kept.3.0 r.kept.3.1 S other (written_statics row) (join_flagged_statics row Inherit) (AtAlone (member_at id number None)) n
       (λ w at. ap (λ (x : Member). x.chain) at) c (list-kept m id r.kept.0 r.kept.2 sound versions number r.kept.3.0 r.kept.4.kind (member_at id number None) n list)
       (λ changes keeps. statics-kept other r.kept.0.chain number r.kept.3.0 (its-form m id r.kept.0 r.kept.2 sound versions) changes keeps row h up)
       (40 + length (row_code row)) (weight-statics row some)
-      (each-grows (join_flagged_statics row Inherit) (40 + length (row_code row)) (λ v is under. statics-bytes row Inherit v up (statics-under schema v.statics under.statics)))
+      (each-differs (join_flagged_statics row Inherit) (40 + length (row_code row)) (λ v is under. (statics-bytes row Inherit v up (statics-under schema v.statics under.statics), statics-least (S / 8) v row Inherit (statics-small v.statics under.statics))))
 
   -- ---- a range tombstone
 
@@ -143,11 +156,11 @@ module _ (S : ℕ) (schema : SchemaValue) (m : Memory) (id number bytes : ℕ) (
 
   pub range-there : (from to : Pos) (tomb : Tomb) (n : Memory) → IsVersionChanged id number (range_joined from to tomb) Nowhere m n →
       OfVersion m id number (λ k v. (mid : List Member) × IsRenewedWhereNone k.chain.kind v (member_at id number (Some from)) m.recency mid × IsRenewedWhereNone k.chain.kind v (member_at id number (Some to)) mid n.recency) →
-      (other : SchemaValue) → IsRangeBound other from → IsRangeBound other to → IsChangeWritten other id (written_range from to tomb) 512 m n
-  range-there from to tomb n c list other f t = written-there m id r.kept.0 r.kept.2 sound versions number r.kept.3.0 r.kept.3.1 other (written_range from to tomb) (range_joined from to tomb) Nowhere n
+      (other : SchemaValue) → IsRangeBound other from → IsRangeBound other to → IsChangeWritten S other id (written_range from to tomb) 512 m n
+  range-there from to tomb n c list other f t = written-there m id r.kept.0 r.kept.2 sound versions number r.kept.3.0 r.kept.3.1 S other (written_range from to tomb) (range_joined from to tomb) Nowhere n
       (λ w no. absurd no) c (range-list-kept m id r.kept.0 r.kept.2 sound versions number r.kept.3.0 r.kept.4.kind from to n list)
       (λ changes keeps. range-kept other r.kept.0.chain number r.kept.3.0 (its-form m id r.kept.0 r.kept.2 sound versions) changes keeps from to tomb f t)
-      (entry_weight from + entry_weight to) (weight-range from to tomb) (each-grows (range_joined from to tomb) (entry_weight from + entry_weight to) (λ v is under. range-bytes from to tomb v))
+      (entry_weight from + entry_weight to) (weight-range from to tomb) (each-differs (range_joined from to tomb) (entry_weight from + entry_weight to) (λ v is under. (range-bytes from to tomb v, range-least (S / 8) v from to tomb)))
 
 -- ---- what a single write needs
 

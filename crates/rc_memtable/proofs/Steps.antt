@@ -1,5 +1,5 @@
 -- One version of one chain changed, or put over the others: what becomes of that chain, and that the others are kept.
-use Rattle.std.proofs.Common.{inl, inr, ◌≡◌, ◌⊎◌, ◌<◌, ◌≤◌, ◌+◌, ℕ, suc, true, false, List, [], ◌∷◌, ◌++◌, Option, Some, None, length, refl, sym, ap, ◌∙◌, subst, slice_index_or, arith, length-append}
+use Rattle.std.proofs.Common.{inl, inr, ◌≡◌, ◌⊎◌, ◌<◌, ◌+◌, ◌/◌, ℕ, suc, true, false, List, [], ◌∷◌, ◌++◌, Option, Some, None, length, refl, sym, ap, ◌∙◌, subst, slice_index_or, arith, length-append}
 use Rattle.std.specs.Prelude.{Contains, IfSome, IsSomeAnd}
 use Rattle.std.specs.Option.{option_map}
 use Rattle.rc_position.specs.Position.{Head}
@@ -37,9 +37,9 @@ use Rattle.rc_chain.specs.laws.PlaceBeside.{shown-form}
 use Rattle.rc_memtable.specs.Fits.{IsVersionUnder}
 use Rattle.rc_memtable.specs.Changes.{KeepsChanges}
 use Rattle.rc_memtable.specs.Steps.{AreOthersKept, IsGrown}
-use Rattle.rc_memtable.specs.calls.Steps.{IsChangeWritten}
+use Rattle.rc_memtable.specs.calls.Steps.{IsChangeWritten, chains_bytes}
 use Rattle.rc_memtable.specs.calls.Writing.{IsFreeNewest, IsOpened}
-use Rattle.rc_memtable.proofs.Grown.{over-more, version-more}
+use Rattle.rc_memtable.proofs.Grown.{DiffersBy, over-differs, version-differs}
 use Rattle.rc_memtable.proofs.Kept.{over-below, over-kept}
 
 -- ---- chains by number
@@ -143,16 +143,20 @@ module _ (m : Memory) (id : ℕ) (k : KeptChain) (there : chain_at m id ≡ Some
         (below_or_above i j (λ e. free (subst (IsPinned k.chain.pins) e on)) (suc i < length k.chain.versions) (λ l. omega (arith, l, newest)) (λ l. omega (arith, l, newest, its-sound.pins i on)))
 
     -- a write is there, and no other chain was touched
-    pub written-there : (IsPinned k.chain.pins j → ⊥) → (schema : SchemaValue) (write : Mutation) (f : Version → Version) (these : Member → Type 0) (n : Memory) → ((w : Member) → these w → w.chain ≡ id) → IsVersionChanged id j f these m n → n.recency ≡ m.recency →
-        ((changes : List Mutation) → KeepsChanges schema k.chain changes → KeepsChanges schema (on_version_of j f k.chain) (changes ++ write ∷ [])) → (more : ℕ) → weight write ≡ 512 + more → EachOf (λ v. version_bytes (f v) ≤ version_bytes v + more) k.chain.versions →
-        IsChangeWritten schema id write 512 m n
-    written-there free schema write f these n own h list keeps more heavy each = record {
+    pub written-there : (IsPinned k.chain.pins j → ⊥) → (S : ℕ) (schema : SchemaValue) (write : Mutation) (f : Version → Version) (these : Member → Type 0) (n : Memory) → ((w : Member) → these w → w.chain ≡ id) → IsVersionChanged id j f these m n → n.recency ≡ m.recency →
+        ((changes : List Mutation) → KeepsChanges schema k.chain changes → KeepsChanges schema (on_version_of j f k.chain) (changes ++ write ∷ [])) → (more : ℕ) → weight write ≡ 512 + more → EachOf (λ v. DiffersBy more (S / 8) (version_bytes v) (version_bytes (f v))) k.chain.versions →
+        IsChangeWritten S schema id write 512 m n
+    written-there free S schema write f these n own h list keeps more heavy each = record {
       grown = λ q e. subst (λ (p : KeptChain). (n' : KeptChain) × (chain_at n id ≡ Some n') × IsGrown p n' × ((changes : List Mutation) → KeepsChanges schema p.chain changes → KeepsChanges schema n'.chain (changes ++ write ∷ [])))
           (same_some k q (sym there ∙ e))
           (on_shown (on_version_of j f) k, chain-now m n id (on_shown (on_version_of j f)) k h.chains there, record { kind = refl; attached = refl; updating = refl; pins = refl; passed = refl; below = below-kept free f }, keeps);
       others = changed-kept id j f these m n own h list;
-      grows = let grown = version-more m n id j f more k h.chains there each in omega (arith, grown, heavy);
+      grows = let grown = both.0 in omega (arith, grown, heavy);
+      shrinks = both.1;
     }
+      where
+        both : DiffersBy more (S / 8) (chains_bytes m) (chains_bytes n)
+        both = version-differs m n id j f more (S / 8) k h.chains there each
 
     its-version : (v : Version) × IsVersionAt k.chain.versions j v
     its-version = number-there k.chain.versions j (omega (arith, newest))
@@ -211,13 +215,15 @@ module _ (m : Memory) (id : ℕ) (k : KeptChain) (there : chain_at m id ≡ Some
           still = still-wider (λ w. ⊥) (λ w. w.chain ≡ id) m n (λ w no. absurd no) h.still;
           region = h.region;
         };
-        grows = over-more m n id k h.chains there;
+        grows = (over-differs m n id k h.chains there).0;
+        keeps = let kept = (over-differs m n id k h.chains there).1 in omega (arith, kept);
       }
 
 -- a write into a chain whose newest version nobody pins
-pub opened-written : (schema : SchemaValue) (id number : ℕ) (change : Mutation) (m n o : Memory) → IsOpened id number m n → IsChangeWritten schema id change 512 n o → IsChangeWritten schema id change 360 m o
-opened-written schema id number change m n o a b = record {
+pub opened-written : (S : ℕ) (schema : SchemaValue) (id number : ℕ) (change : Mutation) (m n o : Memory) → IsOpened id number m n → IsChangeWritten S schema id change 512 n o → IsChangeWritten S schema id change 360 m o
+opened-written S schema id number change m n o a b = record {
   grown = λ k e. let p = a.grown k e in let q = b.grown p.0 p.1 in (q.0, q.1, grown-then k p.0 q.0 p.2 q.2, λ changes keeps. q.3 changes (p.4 schema changes keeps));
   others = kept-then id m n o a.others b.others;
   grows = let made = a.grows in let written = b.grows in omega (arith, made, written);
+  shrinks = let made = a.keeps in let written = b.shrinks in omega (arith, made, written);
 }

@@ -1,22 +1,18 @@
 -- A snapshot of a memtable's chain that is taken sees what was written, and once it is taken back all is as before.
-use Rattle.std.proofs.Common.{inl, inr, ◌≡◌, ◌⊎◌, ⊎_elim, ℕ, zero, suc, List, [], ◌∷◌, Option, Some, None, refl, sym, ap, ◌∙◌, subst}
+use Rattle.std.proofs.Common.{inr, ◌≡◌, ⊎_elim, ℕ, zero, suc, List, [], ◌∷◌, Option, Some, None, refl, sym, ap, ◌∙◌, subst}
 use Rattle.std.specs.Prelude.{IfSome}
-use Rattle.rc_position.specs.Position.{Head}
 use Rattle.rc_schema.specs.SchemaValue.{SchemaValue}
 use Rattle.rc_mutation.specs.declared.mutations.Mutation.{Mutation}
 use Rattle.rc_mutation.specs.declared.mutations.Write.{Write}
-use Rattle.rc_core.specs.Chains.{at_place, upto}
 use Rattle.rc_core.specs.Chain.{IsEvenAt}
 use Rattle.rc_core.specs.declared.entries.ChainKind.TheVariants.{Memtable}
-use Rattle.rc_core.specs.Continuity.{EachOf}
 use Rattle.rc_core.specs.Steps.{free_number, pin_at, pins_with, pins_without}
-use Rattle.rc_core.specs.Version.{IsVersion, Version}
+use Rattle.rc_core.specs.Version.{IsVersion}
 use Rattle.rc_core.specs.laws.Pins.{pin-given}
-use Rattle.rc_position.specs.declared.positions.Pos.{Pos}
 use Rattle.rc_memory.specs.Changes.{OfVersion}
 use Rattle.rc_memory.specs.Kept.{IsSoundChain}
-use Rattle.rc_memory.specs.Memory.{HasPin, IsSnapshotTaken, KeptChain, Memory, chain_at, on_chain, snapshot_number, with_chains, with_snapshot, without_snapshot}
-use Rattle.rc_memory.specs.laws.Places.{no_some, same_some}
+use Rattle.rc_memory.specs.Memory.{IsSnapshotTaken, KeptChain, Memory, chain_at, on_chain, snapshot_number, with_chains, with_snapshot, without_snapshot}
+use Rattle.rc_memory.specs.laws.Places.{no_some}
 use Rattle.rc_memtable.specs.Changes.{KeepsChanges}
 use Rattle.rc_memtable.specs.Partitions.{AreAsBefore, IsAsBefore}
 use Rattle.rc_memtable.specs.Writes.{HasWrites}

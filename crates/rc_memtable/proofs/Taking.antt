@@ -1,8 +1,7 @@
 -- What was read, with one part more.
-use Rattle.std.proofs.Common.{◌≡◌, ◌≢◌, Bool, true, false, List, [], ◌∷◌, ◌++◌, Option, Some, None, refl, sym, ap, ◌∙◌, subst, append-nil}
-use Rattle.std.specs.declared.cmp.Ordering.{Ordering}
+use Rattle.std.proofs.Common.{◌≡◌, true, false, List, [], ◌∷◌, Option, Some, None, refl, sym, ap, ◌∙◌, subst, append-nil}
 use Rattle.std.specs.declared.cmp.Ordering.TheVariants.{Less, Equal, Greater}
-use Rattle.std.specs.Ordering.{is_eq, is_gt}
+use Rattle.std.specs.Ordering.{is_eq}
 use Rattle.rc_cell.specs.declared.rows.Row.{Row}
 use Rattle.rc_cell.specs.declared.writes.Tomb.{Tomb}
 use Rattle.rc_cell.specs.Orders.{tomb_cmp}
@@ -12,7 +11,7 @@ use Rattle.rc_cell.specs.laws.{joined_row-append, joined_row-none}
 use Rattle.rc_position.specs.declared.comps.Comp.{Comp}
 use Rattle.rc_position.specs.declared.positions.Pos.{Pos}
 use Rattle.rc_position.specs.declared.positions.Weight.TheVariants.{Before, At, After}
-use Rattle.rc_position.specs.Position.{IsBefore, covers, pos_cmp, row_pos}
+use Rattle.rc_position.specs.Position.{IsBefore, pos_cmp, row_pos}
 use Rattle.rc_position.specs.laws.Orders.{pos_cmp_same, pos_cmp_total}
 use Rattle.rc_position.specs.laws.Bounds.{first_pos-least, last_pos-greatest}
 use Rattle.rc_schema.specs.SchemaValue.{SchemaValue}

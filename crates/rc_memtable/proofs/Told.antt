@@ -1,5 +1,5 @@
 -- A mutation whose head, static row, rows and range tombstones are what is seen says what the changes say.
-use Rattle.std.proofs.Common.{◌≡◌, List, [], ◌∷◌, ◌++◌, Option, Some, None, refl, sym, ap, ◌∙◌, subst, append-nil}
+use Rattle.std.proofs.Common.{◌≡◌, List, [], ◌∷◌, ◌++◌, Option, sym, ap, ◌∙◌, append-nil}
 use Rattle.rc_cell.specs.declared.rows.Row.{Row}
 use Rattle.rc_cell.specs.declared.writes.Tomb.{Tomb}
 use Rattle.rc_cell.specs.Orders.{tomb_cmp}
@@ -14,7 +14,7 @@ use Rattle.rc_ranges.specs.Cover.{cover as range_tomb}
 use Rattle.rc_ranges.specs.laws.Covering.{cover-none}
 use Rattle.rc_ranges.specs.laws.Greater.{greater-none}
 use Rattle.rc_mutation.specs.declared.mutations.Mutation.{Mutation}
-use Rattle.rc_mutation.specs.Source.{SameSource, rows_in, source_at, source_at_static}
+use Rattle.rc_mutation.specs.Source.{SameSource, rows_in, source_at}
 use Rattle.rc_mutation.specs.Rows.{joined_rows}
 use Rattle.rc_mutation.specs.laws.Sources.{head-one, rows_in-joined_rows}
 use Rattle.rc_core.specs.declared.parts.Part.TheVariants as part

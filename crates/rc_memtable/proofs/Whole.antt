@@ -1,6 +1,5 @@
 -- Between the position of a row and what is behind its key the same is seen all along, no row, and the tombstone that is in force at the row.
-use Rattle.std.proofs.Common.{◌≡◌, ◌≢◌, ◌+◌, ◌≤◌, ℕ, Bool, true, false, not, ◌&&◌, List, [], ◌∷◌, Option, Some, None, inl, refl, sym, ap, ◌∙◌, subst, arith, length}
-use Rattle.std.specs.Prelude.{IsTrue}
+use Rattle.std.proofs.Common.{◌≡◌, ◌+◌, ◌≤◌, true, false, not, ◌&&◌, List, [], ◌∷◌, Option, inl, refl, sym, ap, ◌∙◌, subst, arith, length}
 use Rattle.std.specs.declared.cmp.Ordering.{Ordering}
 use Rattle.std.specs.declared.cmp.Ordering.TheVariants.{Less, Equal, Greater}
 use Rattle.std.specs.Ordering.{is_gt}
@@ -15,19 +14,18 @@ use Rattle.rc_position.specs.Position.{IsBefore, covers, pos_cmp, row_pos}
 use Rattle.rc_position.specs.laws.Orders.{pos_cmp_same, pos_cmp_total}
 use Rattle.rc_position.specs.laws.Bounds.{last_pos-greatest}
 use Rattle.rc_schema.specs.SchemaValue.{SchemaValue}
-use Rattle.rc_schema.specs.Checks.{is_key_of}
 use Rattle.rc_ranges.specs.calls.Sweep.{lt}
-use Rattle.rc_ranges.specs.laws.Order.{before-lt, covers-lt, lt-asym, lt-before}
+use Rattle.rc_ranges.specs.laws.Order.{before-lt, covers-lt, lt-asym}
 use Rattle.rc_mutation.specs.declared.mutations.Mutation.{Mutation}
-use Rattle.rc_mutation.specs.Source.{all_pieces, all_rows, source_at}
+use Rattle.rc_mutation.specs.Source.{all_pieces, all_rows}
 use Rattle.rc_core.specs.declared.entries.ChainKind.{ChainKind}
 use Rattle.rc_core.specs.declared.entries.ChainKind.TheVariants.{Memtable}
 use Rattle.rc_core.specs.declared.entries.Entry.{Entry}
 use Rattle.rc_core.specs.declared.parts.Part.TheVariants.{Gap}
 use Rattle.rc_core.specs.AtPlace.{EachEntry}
-use Rattle.rc_core.specs.Chain.{IsBare, IsEvenAt, IsKnown, content, states_at}
+use Rattle.rc_core.specs.Chain.{IsEvenAt, IsKnown, content, states_at}
 use Rattle.rc_core.specs.Continuity.{EachOf}
-use Rattle.rc_core.specs.Parts.{IsClear, IsFirstPart, IsReach}
+use Rattle.rc_core.specs.Parts.{IsClear, IsFirstPart}
 use Rattle.rc_core.specs.Version.{On, Version, end_position}
 use Rattle.rc_core.specs.laws.Written.{memtable-known, no_rows_off}
 use Rattle.rc_memtable.specs.Fits.{IsEntryUnder, IsVersionUnder}

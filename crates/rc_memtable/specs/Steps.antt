@@ -2,7 +2,7 @@
 --     IsGrown      a chain got something in its newest version, which nobody pinned, or got that version first
 --     AreOthersKept   all but one chain is as it was
 --     IsApplied    one write more
-use Rattle.std.specs.Prelude.{◌≡◌, ◌≤◌, ◌+◌, ℕ, List, ◌++◌, ◌∷◌, [], Some, None, cond}
+use Rattle.std.specs.Prelude.{◌≡◌, ◌≤◌, ◌+◌, ◌/◌, ℕ, List, ◌++◌, ◌∷◌, [], Some, None, cond}
 use Rattle.std.specs.Ordering.{eq_by_cmp}
 use Rattle.lsa_region.specs.Region.{live_bytes}
 use Rattle.rc_position.specs.Position.{bytes_cmp}
@@ -33,8 +33,8 @@ pub record AreOthersKept (id : ℕ) (old new : Memory) : Type 0 where
   pub still : StandStill (λ w. w.chain ≡ id) old new
   pub region : IsUnmoved old.region new.region
 
--- A write was put behind those that the memtable stood for. Its key has a chain, the one that it had, or a new one, whose number no chain had nor was to be told. What is live is more by at most the write's weight.
-pub record IsApplied (schema : SchemaValue) (w : Write) (before now : List (List ℕ × ℕ)) (old new : Memory) : Type 0 where
+-- A write was put behind those that the memtable stood for. Its key has a chain, the one that it had, or a new one, whose number no chain had nor was to be told. What is live is more by at most the write's weight, and less by at most one object, which an eighth of a segment holds.
+pub record IsApplied (S : ℕ) (schema : SchemaValue) (w : Write) (before now : List (List ℕ × ℕ)) (old new : Memory) : Type 0 where
   pub stands : (writes : List Write) → HasWrites schema before old writes → HasWrites schema now new (writes ++ w ∷ [])
   pub id : ℕ
   pub keys : (key : List ℕ) → chain_of now key ≡ cond (eq_by_cmp bytes_cmp w.key key) (Some id) (chain_of before key)
@@ -42,3 +42,4 @@ pub record IsApplied (schema : SchemaValue) (w : Write) (before now : List (List
   pub made : chain_of before w.key ≡ None → (chain_at old id ≡ None) × (IsNumberIn old.dropped id → ⊥)
   pub others : AreOthersKept id old new
   pub grows : live_bytes new.region ≤ live_bytes old.region + weight w.change
+  pub shrinks : live_bytes old.region ≤ live_bytes new.region + S / 8

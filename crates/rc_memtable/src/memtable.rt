@@ -85,7 +85,7 @@ impl Memtable {
         }
     }
 
-    /// Puts a write to one place, which fits the schema, behind the others. What snapshots see stays, and what is live in the region is more by at most the write's weight. The only error is want of memory, after which memtable and chains are as they were.
+    /// Puts a write to one place, which fits the schema, behind the others. What snapshots see stays, and what is live in the region is more by at most the write's weight, and less by at most an eighth of a segment. The only error is want of memory, after which memtable and chains are as they were.
     pub fn apply<const S: usize>(
         &mut self,
         alloc: Global,
@@ -98,7 +98,7 @@ impl Memtable {
         requires fits { ChangeFits schema.now w.now.change }
         requires kept { (writes : Sequence Written) × HasWrites schema.now self.old chains.old writes }
         requires room { IsRoomFor schema.now self.old chains.old w.now (spare_of S chains.old.region.usages) }
-        ensures applied { OnOk result (IsApplied schema.now w.now self.old self.new chains.old chains.new) }
+        ensures applied { OnOk result (IsApplied S schema.now w.now self.old self.new chains.old chains.new) }
         ensures same { OnErr result (self.new ≡ self.old) }
         ensures err { OnErr result (IsSameButSlots chains.old chains.new) }
     {

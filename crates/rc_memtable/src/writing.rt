@@ -26,7 +26,7 @@ use rc_position::{Key, Pos};
 // A partition tombstone into the newest version of a chain.
 fn write_tomb<const S: usize>(chains: &mut Chains<S>, id: u64, number: u64, tomb: Tomb)
     requires { (schema : SchemaValue) × CanJoinNewest S schema chains.old id number 0 }
-    ensures { (schema : SchemaValue) → IsChangeWritten schema id (written_pt tomb) 512 chains.old chains.new }
+    ensures { (schema : SchemaValue) → IsChangeWritten S schema id (written_pt tomb) 512 chains.old chains.new }
 {
     chains.known();
     chains.join_pt(id, number, tomb);
@@ -35,7 +35,7 @@ fn write_tomb<const S: usize>(chains: &mut Chains<S>, id: u64, number: u64, tomb
 // A static row into the newest version of a chain.
 fn write_static<const S: usize>(chains: &mut Chains<S>, id: u64, number: u64, row: &Row)
     requires { (schema : SchemaValue) × CanJoinNewest S schema chains.old id number (largest_static schema) × IsStaticOf schema row.now × IsRow row.now }
-    ensures { (schema : SchemaValue) → IsStaticOf schema row.now → IsRow row.now → is_written row.now ≡ true → IsChangeWritten schema id (written_statics row.now) 512 chains.old chains.new }
+    ensures { (schema : SchemaValue) → IsStaticOf schema row.now → IsRow row.now → is_written row.now ≡ true → IsChangeWritten S schema id (written_statics row.now) 512 chains.old chains.new }
 {
     chains.known();
     chains.join_static(id, number, row, Flag::Inherit);
@@ -44,7 +44,7 @@ fn write_static<const S: usize>(chains: &mut Chains<S>, id: u64, number: u64, ro
 // A row into the newest version of a chain.
 fn write_row<const S: usize>(chains: &mut Chains<S>, id: u64, number: u64, key: &Key, row: &Row)
     requires { (schema : SchemaValue) × CanJoinNewest S schema chains.old id number (largest_entry schema) × IsRowOf schema key.now row.now × IsRow row.now }
-    ensures { (schema : SchemaValue) → IsRowOf schema key.now row.now → IsRow row.now → IsChangeWritten schema id (written_row key.now row.now) 512 chains.old chains.new }
+    ensures { (schema : SchemaValue) → IsRowOf schema key.now row.now → IsRow row.now → IsChangeWritten S schema id (written_row key.now row.now) 512 chains.old chains.new }
 {
     chains.known();
     chains.join_row(id, number, key, row);
@@ -60,7 +60,7 @@ fn write_range<const S: usize>(
     tomb: Tomb,
 )
     requires { (schema : SchemaValue) × CanJoinNewest S schema chains.old id number (2 * largest_entry schema) × IsRangeBound schema from.now × IsRangeBound schema to.now × IsBefore from.now to.now }
-    ensures { (schema : SchemaValue) → IsRangeBound schema from.now → IsRangeBound schema to.now → IsChangeWritten schema id (written_range from.now to.now tomb) 512 chains.old chains.new }
+    ensures { (schema : SchemaValue) → IsRangeBound schema from.now → IsRangeBound schema to.now → IsChangeWritten S schema id (written_range from.now to.now tomb) 512 chains.old chains.new }
 {
     chains.known();
     chains.join_range(id, number, from, to, tomb);
@@ -86,7 +86,7 @@ fn open_newest<const S: usize>(chains: &mut Chains<S>, id: u64) -> u64
 // What a write says of its partition into the newest version of a chain.
 fn write_newest<const S: usize>(chains: &mut Chains<S>, id: u64, number: u64, change: &Mutation)
     requires { (schema : SchemaValue) × CanJoinNewest S schema chains.old id number (joined_need schema change.now) × IsSingle change.now × ChangeFits schema change.now }
-    ensures { (schema : SchemaValue) → ChangeFits schema change.now → IsChangeWritten schema id change.now 512 chains.old chains.new }
+    ensures { (schema : SchemaValue) → ChangeFits schema change.now → IsChangeWritten S schema id change.now 512 chains.old chains.new }
 {
     change.holds_together();
     if let Some(tomb) = change.pt {
@@ -104,7 +104,7 @@ fn write_newest<const S: usize>(chains: &mut Chains<S>, id: u64, number: u64, ch
 /// Writes what a write says of its partition into a chain: into its newest version, over which another one, of 152 bytes, is put first where a snapshot pins it.
 pub(crate) fn write_into<const S: usize>(chains: &mut Chains<S>, id: u64, change: &Mutation)
     requires { (schema : SchemaValue) × CanWrite S schema chains.old id change.now }
-    ensures written { (schema : SchemaValue) → ChangeFits schema change.now → IsChangeWritten schema id change.now 360 chains.old chains.new }
+    ensures written { (schema : SchemaValue) → ChangeFits schema change.now → IsChangeWritten S schema id change.now 360 chains.old chains.new }
     ensures live { live_bytes chains.new.region ≡ chains_bytes chains.new }
 {
     let number = open_newest(chains, id);

@@ -5,20 +5,19 @@ use Rattle.lsa_region.specs.Region.{live_bytes}
 use Rattle.rc_core.specs.declared.entries.ChainKind.{ChainKind}
 use Rattle.rc_core.specs.declared.entries.ChainKind.TheVariants.{Cache, Memtable}
 use Rattle.rc_memory.specs.declared.counts.Counts.{Counts}
-use Rattle.rc_memory.specs.Kept.{IsLiveInChains, present}
+use Rattle.rc_memory.specs.Kept.{present}
 use Rattle.rc_memory.specs.Memory.{KeptChain, Member, Memory, chain_at}
 use Rattle.rc_memory.specs.Recency.{IsRecency}
 use Rattle.rc_memory.specs.laws.Places.{same_some}
 use Rattle.rc_filler.specs.Crowding.{IsCrowded, version_count, versions_of}
 use Rattle.rc_filler.specs.Evictions.{AreEvicted, IsRoomMade, evicted_of, evictions_counted}
 use Rattle.rc_filler.specs.Lives.{is_cache}
-use Rattle.rc_row_cache.specs.Footprint.{LosesBeforeWrite, cache_bytes, cache_versions, is_chain_of, memtable_bytes}
+use Rattle.rc_row_cache.specs.Footprint.{IsCrowdedForWrite, LosesBeforeWrite, cache_versions, is_chain_of}
 use Rattle.rc_row_cache.specs.Leaving.{AreCachesSame}
 use Rattle.rc_row_cache.proofs.Numbered.{among-or, mapped, none-is-none, there-or-not}
-use Rattle.rc_row_cache.proofs.Putting.{cache-same}
-use Rattle.rc_row_cache.proofs.Spared.{SparingLaws, made-spared, spared-bytes}
+use Rattle.rc_row_cache.proofs.Spared.{SparingLaws}
 use Rattle.rc_row_cache.proofs.Sums.{added_by, sum-both, sum-filter, sum-least, through}
-use Rattle.rc_row_cache.proofs.Weighed.{kind-or, live-of-both}
+use Rattle.rc_row_cache.proofs.Weighed.{kind-or}
 
 -- ---- how many versions there are, by kinds
 
@@ -116,8 +115,12 @@ module _ (old new : Memory) (same : AreCachesSame old new) where
 
 -- ---- room for a write
 
-crowded_sum : (least live eighth memtables cache before now was is m0 h i : ℕ) → least + 152 * is + h < live + eighth + 152 * (was + 0) + i → h ≡ i → live ≡ memtables + cache → was ≡ m0 + before → is ≡ m0 + now → now ≤ before → least < memtables + cache + eighth + 152 * (before - now)
-crowded_sum least live eighth memtables cache before now was is m0 h i c p q r s t = omega (arith, c, p, q, r, s, t)
+-- an object was evicted last, and one may have become smaller
+two-eighths : (S : ℕ) → S / 8 + S / 8 ≤ S / 4
+two-eighths S = omega arith
+
+crowded_sum : (least between live eighth quarter before now was is m0 h i rise : ℕ) → least + 152 * is + h < between + eighth + 152 * (was + 0) + i → h ≡ i → between ≤ live + eighth → eighth + eighth ≤ quarter → was ≡ m0 + before → is ≡ m0 + now → now ≤ before → least < live + quarter + 152 * (before - now) + rise
+crowded_sum least between live eighth quarter before now was is m0 h i rise c p q o r s t = omega (arith, c, p, q, o, r, s, t)
 
 fewer : (before now was is m0 : ℕ) → is ≤ was + 0 → was ≡ m0 + before → is ≡ m0 + now → now ≤ before
 fewer before now was is m0 p q r = omega (arith, p, q, r)
@@ -125,17 +128,16 @@ fewer before now was is m0 p q r = omega (arith, p, q, r)
 none-counted : (went : List Member) (old mid : Counts) → mid ≡ evictions_counted went old → went ≡ [] → mid ≡ old
 none-counted went old mid counts none = counts ∙ ap (λ ws. evictions_counted ws old) none
 
-module _ (laws : SparingLaws) (S : ℕ) (old mid new : Memory) (room : IsRoomMade S old mid) (rule : IsRecency old) (live : IsLiveInChains mid) (same : AreCachesSame mid new) (budget : length new.region.usages ≡ length mid.region.usages) (counts : new.counts ≡ mid.counts) where
-  crowded : IsCrowded S (S / 8) 0 old mid → 3 * S / 4 * (length new.region.usages - 2) < memtable_bytes old + cache_bytes new + S / 8 + 152 * (cache_versions old - cache_versions new)
+module _ (laws : SparingLaws) (S : ℕ) (old mid new : Memory) (room : IsRoomMade S old mid) (rule : IsRecency old) (shrinks : live_bytes mid.region ≤ live_bytes new.region + S / 8) (same : AreCachesSame mid new) (budget : length new.region.usages ≡ length mid.region.usages) (counts : new.counts ≡ mid.counts) where
+  crowded : IsCrowded S (S / 8) 0 old mid → IsCrowdedForWrite S old new
   crowded c =
       let memtables = evicted-versions laws room.went room.gone old mid room.evicted rule in
       let caches = sym (versions-same mid new same) in
       let is = versions-of-both mid ∙ (λ i. memtables i + caches i) in
       let was = versions-of-both old in
-      subst (λ n. 3 * S / 4 * (n - 2) < memtable_bytes old + cache_bytes new + S / 8 + 152 * (cache_versions old - cache_versions new)) (sym budget)
-      (crowded_sum (3 * S / 4 * (length mid.region.usages - 2)) (live_bytes mid.region) (S / 8) (memtable_bytes old) (cache_bytes new) (cache_versions old) (cache_versions new) (versions_of old) (versions_of mid) (memtable_versions old) old.counts.shrunk mid.counts.shrunk c (sym room.shrunk)
-      (let spared = spared-bytes old mid (made-spared laws S old mid rule room) in let kept = sym (cache-same mid new same) in live-of-both mid live ∙ (λ i. spared i + kept i))
-      was is (fewer (cache_versions old) (cache_versions new) (versions_of old) (versions_of mid) (memtable_versions old) room.loses.versions was is))
+      subst (λ n. 3 * S / 4 * (n - 2) < live_bytes new.region + S / 4 + 152 * (cache_versions old - cache_versions new) + (new.counts.shrunk - old.counts.shrunk)) (sym budget)
+      (crowded_sum (3 * S / 4 * (length mid.region.usages - 2)) (live_bytes mid.region) (live_bytes new.region) (S / 8) (S / 4) (cache_versions old) (cache_versions new) (versions_of old) (versions_of mid) (memtable_versions old) old.counts.shrunk mid.counts.shrunk (new.counts.shrunk - old.counts.shrunk) c (sym room.shrunk)
+      shrinks (two-eighths S) was is (fewer (cache_versions old) (cache_versions new) (versions_of old) (versions_of mid) (memtable_versions old) room.loses.versions was is))
 
   pub write-loses : LosesBeforeWrite S old new
   write-loses = elim room.crowded [

@@ -96,7 +96,7 @@ memtable-at m n k e kind q f cached = not-both k.chain.kind kind (ap (λ (x : Ke
 
 -- ---- a write that is put
 
-module _ (schema : SchemaValue) (w : Write) (before now : List (List ℕ × ℕ)) (old new : Memory) (writes : List Write) (h : HasWrites schema before old writes) (a : IsApplied schema w before now old new) where
+module _ (S : ℕ) (schema : SchemaValue) (w : Write) (before now : List (List ℕ × ℕ)) (old new : Memory) (writes : List Write) (h : HasWrites schema before old writes) (a : IsApplied S schema w before now old new) where
   was-none : (o : Option ℕ) → chain_of before w.key ≡ o → (k : KeptChain) → chain_at old a.id ≡ Some k → k.chain.kind ≡ Cache → ⊥
   was-none None none k e cached = none-is-none k (sym (a.made none).0 ∙ e)
   was-none (Some n) some k e cached = let c = h.kept w.key n some in memtable-at old n c.0 c.1 c.2.kind k (ap (chain_at old) (a.had n some).0 ∙ e) cached
@@ -249,4 +249,4 @@ as-before-pins below id pin old new b = pins-at below id pin old new (λ k j the
 -- ---- room, and then the cache as it was
 
 pub put-beside-cache : (S : ℕ) (schema : SchemaValue) (w : Write) (old new : Unstored S) (writes : List Write) (p : IsPutBehind schema w old new) → HasWrites schema old.active p.mid writes → IsRoomMadeBeside S old.chains new.chains
-put-beside-cache S schema w old new writes p h = record { mid = p.mid; room = p.room; same = applied-same schema w old.active new.active p.mid new.chains writes h p.applied; counts = p.applied.others.counts }
+put-beside-cache S schema w old new writes p h = record { mid = p.mid; room = p.room; same = applied-same S schema w old.active new.active p.mid new.chains writes h p.applied; counts = p.applied.others.counts }

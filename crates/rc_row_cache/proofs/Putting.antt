@@ -46,7 +46,7 @@ module _ (old new : Memory) (same : AreCachesSame old new) where
 memtable-at : (m : Memory) (n : ℕ) (k : KeptChain) → chain_at m n ≡ Some k → k.chain.kind ≡ Memtable → (q : KeptChain) → chain_at m n ≡ Some q → q.chain.kind ≡ Cache → ⊥
 memtable-at m n k e kind q f cached = not-both k.chain.kind kind (ap (λ (x : KeptChain). x.chain.kind) (same_some k q (sym e ∙ f)) ∙ cached)
 
-module _ (schema : SchemaValue) (w : Write) (before now : List (List ℕ × ℕ)) (old new : Memory) (writes : List Write) (h : HasWrites schema before old writes) (a : IsApplied schema w before now old new) where
+module _ (S : ℕ) (schema : SchemaValue) (w : Write) (before now : List (List ℕ × ℕ)) (old new : Memory) (writes : List Write) (h : HasWrites schema before old writes) (a : IsApplied S schema w before now old new) where
   was-none : (o : Option ℕ) → chain_of before w.key ≡ o → (k : KeptChain) → chain_at old a.id ≡ Some k → k.chain.kind ≡ Cache → ⊥
   was-none None none k e cached = none-is-none k (sym (a.made none).0 ∙ e)
   was-none (Some n) some k e cached = let c = h.kept w.key n some in memtable-at old n c.0 c.1 c.2.kind k (ap (chain_at old) (a.had n some).0 ∙ e) cached

@@ -8,6 +8,7 @@
 --     AreInUse          no chain of the cache is to be dropped
 --     cache_snapshots   how many snapshots of chains of the cache are taken
 use Rattle.std.specs.Prelude.{◌≡◌, ◌⊎◌, ◌+◌, ◌-◌, ◌*◌, ◌/◌, ◌<◌, ℕ, Bool, false, not, Some, filter, length, sum_by}
+use Rattle.lsa_region.specs.Region.{live_bytes}
 use Rattle.rc_core.specs.declared.entries.ChainKind.{ChainKind}
 use Rattle.rc_core.specs.declared.entries.ChainKind.TheVariants.{Cache, Memtable}
 use Rattle.rc_memory.specs.Kept.{present}
@@ -37,9 +38,9 @@ cache_bytes m = kind_bytes Cache m
 abbrev pub cache_versions : Memory → ℕ
 cache_versions m = sum_by version_count (filter (is_chain_of Cache) (present m.chains))
 
--- What memtables took before a write and what the cache takes after it are more than three quarters of all but two segments, once there is added: an eighth of a segment, for one object; and 152 bytes, a head and an end dummy, for each version of the cache that went.
+-- More than three quarters of all but two segments are live, once to what is live is added: a quarter of a segment, for the object that was evicted last and for one that the write made smaller; 152 bytes, a head and an end dummy, for each version of the cache that went; and what chains became smaller by, which is counted.
 abbrev pub IsCrowdedForWrite : ℕ → Memory → Memory → Type 0
-IsCrowdedForWrite S old new = 3 * S / 4 * (length new.region.usages - 2) < memtable_bytes old + cache_bytes new + S / 8 + 152 * (cache_versions old - cache_versions new)
+IsCrowdedForWrite S old new = 3 * S / 4 * (length new.region.usages - 2) < live_bytes new.region + S / 4 + 152 * (cache_versions old - cache_versions new) + (new.counts.shrunk - old.counts.shrunk)
 
 -- nothing was lost for a write, or memory was so full
 abbrev pub LosesBeforeWrite : ℕ → Memory → Memory → Type 0

@@ -49,17 +49,17 @@ pub fn what_is_live_is_of_both()
 
 /// By a write that was put memtables take more by at most its weight, where what is live is what all chains take: before it was applied, and once it was put.
 pub fn a_write_is_of_a_memtable()
-    ensures applied { (schema : SchemaValue) (w : Write) (before now : List (List ℕ × ℕ)) (old new : Memory) (writes : List Write) → HasWrites schema before old writes → IsLiveInChains old → IsLiveInChains new → IsApplied schema w before now old new → memtable_bytes new ≤ memtable_bytes old + weight w.change }
+    ensures applied { (S : ℕ) (schema : SchemaValue) (w : Write) (before now : List (List ℕ × ℕ)) (old new : Memory) (writes : List Write) → HasWrites schema before old writes → IsLiveInChains old → IsLiveInChains new → IsApplied S schema w before now old new → memtable_bytes new ≤ memtable_bytes old + weight w.change }
     ensures put { (S : ℕ) (schema : SchemaValue) (w : Write) (old new : Unstored S) (writes later : List Write) → IsPutBehind schema w old new → IsRecency old.chains → HaveWrites schema old writes later → IsLiveInChains new.chains → memtable_bytes new.chains ≤ memtable_bytes old.chains + weight w.change }
 {
     evictions_leave_the_use_of_a_chain();
     what_leaves_the_chains_of_both_leaves_their_writes();
 }
 
-/// What is evicted for a write is evicted where memory is crowded, where what is live is what all chains take: also where no room could be made, and the write was not put.
+/// What is evicted for a write is evicted where memory is crowded: also where no room could be made, and the write was not put.
 pub fn a_write_evicts_where_memory_is_crowded()
     ensures put { (S : ℕ) (schema : SchemaValue) (w : Write) (old new : Unstored S) (writes later : List Write) → IsPutBehind schema w old new → IsRecency old.chains → HaveWrites schema old writes later → LosesBeforeWrite S old.chains new.chains }
-    ensures not_put { (S : ℕ) (old new : Unstored S) → IsNotPut old new → IsRecency old.chains → IsLiveInChains new.chains → LosesBeforeWrite S old.chains new.chains }
+    ensures not_put { (S : ℕ) (old new : Unstored S) → IsNotPut old new → IsRecency old.chains → LosesBeforeWrite S old.chains new.chains }
 {
     evictions_leave_the_use_of_a_chain();
     evictions_spare_memtables_and_readers();

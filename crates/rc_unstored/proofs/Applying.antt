@@ -56,7 +56,7 @@ one-of-two : (b : Bool) (id : ℕ) (o : Option ℕ) (i : ℕ) → cond b (Some i
 one-of-two true id o i e = inl (same_some id i e)
 one-of-two false id o i e = inr e
 
-module _ (S : ℕ) (schema : SchemaValue) (w : Write) (sealed before now : List (List ℕ × ℕ)) (m n : Memory) (a : IsApplied schema w before now m n) where
+module _ (S : ℕ) (schema : SchemaValue) (w : Write) (sealed before now : List (List ℕ × ℕ)) (m n : Memory) (a : IsApplied S schema w before now m n) where
   -- its chain is none of the other one
   off : (o : Option ℕ) → chain_of before w.key ≡ o → (writes : List Write) → HasWrites schema sealed m writes → NoneShared sealed before → (key : List ℕ) (i : ℕ) → chain_of sealed key ≡ Some i → i ≡ a.id → ⊥
   off None none writes h apart key i e same = let k = h.kept key i e in no_some k.0 (sym (a.made none).0 ∙ ap (chain_at m) (sym same) ∙ k.1)
@@ -94,7 +94,7 @@ module _ (S : ℕ) (schema : SchemaValue) (w : Write) (sealed before now : List 
 
 -- ---- once room was made
 
-module _ {S : ℕ} (schema : SchemaValue) (w : Write) (u : Unstored S) (now : List (List ℕ × ℕ)) (mid n : Memory) (a : IsApplied schema w u.active now mid n) where
+module _ {S : ℕ} (schema : SchemaValue) (w : Write) (u : Unstored S) (now : List (List ℕ × ℕ)) (mid n : Memory) (a : IsApplied S schema w u.active now mid n) where
   pub put-stands : (writes later : List Write) → HaveWrites schema (in_chains mid u) writes later → HaveWrites schema (both_in S n u.sealed now) writes (later ++ w ∷ [])
   put-stands writes later h = applied-stands S schema w u.sealed u.active now mid n a writes later h
 
@@ -119,7 +119,7 @@ moved-more S m n (Some k) told most done tells same = subst (λ x. m.region.move
 pub objects-moved : (m n : Memory) → ((names : List (Ref × Ref)) × Renamed m.region n.region names × (n ≡ under_new_names names n.region m)) → IsUntouched m n → m.region.moved ≤ n.region.moved → AreObjectsMoved m n
 objects-moved m n renamed untouched moved = record { untouched = untouched; budget = renamed.1.budget; live = renamed.1.live; moved = moved }
 
-pub put-left : {S : ℕ} (schema : SchemaValue) (w : Write) (u : Unstored S) (now : List (List ℕ × ℕ)) (mid n : Memory) → IsRoomMade S u.chains mid → IsLiveInChains mid → IsApplied schema w u.active now mid n → IsPutBehind schema w u (both_in S n u.sealed now)
+pub put-left : {S : ℕ} (schema : SchemaValue) (w : Write) (u : Unstored S) (now : List (List ℕ × ℕ)) (mid n : Memory) → IsRoomMade S u.chains mid → IsLiveInChains mid → IsApplied S schema w u.active now mid n → IsPutBehind schema w u (both_in S n u.sealed now)
 put-left schema w u now mid n room live applied = record { mid = mid; room = room; live = live; applied = applied; sealed = refl }
 
 pub full-left : {S : ℕ} (u : Unstored S) (m : Memory) → IsRoomMade S u.chains m → IsNotPut u (in_chains m u)

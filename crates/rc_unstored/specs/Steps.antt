@@ -32,7 +32,7 @@ pub record IsPutBehind {S : ℕ} (schema : SchemaValue) (w : Write) (old new : U
   pub mid : Memory
   pub room : IsRoomMade S old.chains mid
   pub live : IsLiveInChains mid
-  pub applied : IsApplied schema w old.active new.active mid new.chains
+  pub applied : IsApplied S schema w old.active new.active mid new.chains
   pub sealed : new.sealed ≡ old.sealed
 
 -- all room was made that could be, and no write was put

@@ -39,6 +39,7 @@ pub record IsOpened (id number : ℕ) (old new : Memory) : Type 0 where
   pub grown : (k : KeptChain) → chain_at old id ≡ Some k → (n : KeptChain) × (chain_at new id ≡ Some n) × IsGrown k n × IsFreeNewest number n.chain × ((schema : SchemaValue) (changes : List Mutation) → KeepsChanges schema k.chain changes → KeepsChanges schema n.chain changes)
   pub others : AreOthersKept id old new
   pub grows : chains_bytes new ≤ chains_bytes old + 152
+  pub keeps : chains_bytes old ≤ chains_bytes new
 
 -- each key has a memtable's chain of its own
 pub record AreMemtables (chains : List (List ℕ × ℕ)) (m : Memory) : Type 0 where

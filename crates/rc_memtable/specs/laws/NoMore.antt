@@ -1,5 +1,5 @@
 -- No more is taken, and no count falls, where nothing is done but to chains, and over calls one after another.
-use Rattle.std.proofs.Common.{◌≡◌, ◌≤◌, ◌∙◌, length, ℕ, subst, sym, ap, le_refl, arith}
+use Rattle.std.proofs.Common.{◌≡◌, ◌≤◌, ◌∙◌, length, subst, sym, ap, le_refl, arith}
 use Rattle.lsa_region.specs.Region.{View, live_bytes}
 use Rattle.rc_memory.specs.declared.counts.Counts.{Counts}
 use Rattle.rc_memory.specs.Memory.{Memory}

@@ -1,7 +1,7 @@
 use Rattle.std.proofs.Common.{sym, subst}
 use Rattle.rc_core.specs.declared.parts.Part.{Part}
 use Rattle.rc_memtable.specs.calls.Reading.{IsPartTaken}
-use Rattle.rc_memtable.proofs.Told.{gap-taken, row-taken}
+use Rattle.rc_memtable.proofs.Told.{row-taken}
 use Rattle.rc_memtable.proofs.reading.take_part.Goals as goal
 
 pub returns-in_ok-add_tomb-in-Row-clause-taken : goal.returns-in_ok-add_tomb-in-Row-clause-taken

@@ -14,4 +14,4 @@ returns-clause-live g c = c.known.ensures.live
 
 pub returns-clause-written : goal.returns-clause-written
 returns-clause-written g c schema fits =
-    opened-written schema c.args.id c.open_newest-number.result c.args.change.now c.args.chains.now c.open_newest-number.new.chains c.write_newest.new.chains c.open_newest-number.ensures.opened (c.write_newest.ensures schema fits)
+    opened-written g.row.S schema c.args.id c.open_newest-number.result c.args.change.now c.args.chains.now c.open_newest-number.new.chains c.write_newest.new.chains c.open_newest-number.ensures.opened (c.write_newest.ensures schema fits)

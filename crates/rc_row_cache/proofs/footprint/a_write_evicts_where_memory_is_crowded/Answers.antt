@@ -1,4 +1,4 @@
-use Rattle.std.proofs.Common.{refl}
+use Rattle.std.proofs.Common.{refl, arith}
 use Rattle.rc_row_cache.proofs.Crowded.{write-loses}
 use Rattle.rc_row_cache.proofs.Memtables.{same-itself}
 use Rattle.rc_row_cache.proofs.Putting.{applied-beside}
@@ -12,6 +12,6 @@ returns c =
     record {
       put = λ S schema w old new writes later p rule h. (
           let kept = (c.what_leaves_the_chains_of_both_leaves_their_writes.ensures.made S schema old p.mid writes later rule p.room h).active in
-          write-loses laws S old.chains p.mid new.chains p.room rule p.live (applied-beside schema w old.active new.active p.mid new.chains later kept p.applied) p.applied.others.region.budget p.applied.others.counts);
-      not_put = λ S old new n rule live. write-loses laws S old.chains new.chains new.chains n.room rule live (same-itself new.chains) refl refl;
+          write-loses laws S old.chains p.mid new.chains p.room rule p.applied.shrinks (applied-beside S schema w old.active new.active p.mid new.chains later kept p.applied) p.applied.others.region.budget p.applied.others.counts);
+      not_put = λ S old new n rule. write-loses laws S old.chains new.chains new.chains n.room rule (omega arith) (same-itself new.chains) refl refl;
     }

@@ -22,7 +22,7 @@ returns c =
       beside = used-beside;
       put = λ S schema w old new writes later rule h p used. (
           let kept = (c.what_leaves_the_chains_of_both_leaves_their_writes.ensures.made S schema old p.mid writes later rule p.room h).active in
-          used-beside p.mid new.chains (applied-beside schema w old.active new.active p.mid new.chains later kept p.applied) p.applied.others.recency (used-made uses S old.chains p.mid p.room used));
+          used-beside p.mid new.chains (applied-beside S schema w old.active new.active p.mid new.chains later kept p.applied) p.applied.others.recency (used-made uses S old.chains p.mid p.room used));
       refused = λ S old new p used. used-same p.mid new.chains (ap (λ (m : Memory). m.chains) p.slots.same) (ap (λ (m : Memory). m.recency) p.slots.same) (used-made uses S old.chains p.mid p.room used);
       released = λ s old new there h. used-beside old new (spares.released s old new there h) (released-list s old new h there.pin);
       let_go = λ S schema u new writes later ascend h gone. used-beside u.chains new (spares.let_go S schema u new writes later ascend h gone) (let-go-list schema u.sealed u.chains new writes ascend h.sealed gone);

@@ -79,4 +79,4 @@ returns-clause-crowds c =
     write-crowds u.chains v.chains c.in_ok-done.ensures.spared
     (either (LosesBeforeWrite 131072 u.chains v.chains) c.in_ok-done.done
     (λ done. law.put 131072 c.args.schema.now c.args.w.now u v had.0 had.1 (c.in_ok-done.ensures.applied done) c.known.ensures.rule had.2)
-    (λ full. law.not_put 131072 u v (c.in_ok-done.ensures.left full) c.known.ensures.rule c.known-2.ensures.live))
+    (λ full. law.not_put 131072 u v (c.in_ok-done.ensures.left full) c.known.ensures.rule))

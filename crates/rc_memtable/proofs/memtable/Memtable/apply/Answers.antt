@@ -31,13 +31,13 @@ write_into-requires-in-None g c =
 
 pub returns-in-Some-clause-applied : goal.returns-in-Some-clause-applied
 returns-in-Some-clause-applied g c =
-    found-applied c.args.schema.now c.args.w.now c.args.chains.now c.write_into.new.chains c.in-Some.id (c.write_into.ensures.written c.args.schema.now c.requires.fits) c.args.self.now
+    found-applied g.row.S c.args.schema.now c.args.w.now c.args.chains.now c.write_into.new.chains c.in-Some.id (c.write_into.ensures.written c.args.schema.now c.requires.fits) c.args.self.now
     (subst (λ (cs : List (List ℕ × ℕ)). chain_of cs c.args.w.now.key ≡ Some c.in-Some.id) c.self.view_is (sym c.in-Some.ensures))
     c.known.ensures.live c.write_into.ensures.live
 
 pub returns-in_ok-id-in-None-clause-applied : goal.returns-in_ok-id-in-None-clause-applied
 returns-in_ok-id-in-None-clause-applied g c =
-    new-applied c.args.schema.now c.args.w.now c.args.chains.now c.add_chain.new.chains c.write_into-in-None.new.chains c.in_ok-id-in-None.id c.in_ok-id-in-None.ensures.made (c.write_into-in-None.ensures.written c.args.schema.now c.requires.fits)
+    new-applied g.row.S c.args.schema.now c.args.w.now c.args.chains.now c.add_chain.new.chains c.write_into-in-None.new.chains c.in_ok-id-in-None.id c.in_ok-id-in-None.ensures.made (c.write_into-in-None.ensures.written c.args.schema.now c.requires.fits)
     c.args.self.now c.add_chain.new.numbers.entries (subst (λ (cs : List (List ℕ × ℕ)). chain_of cs c.args.w.now.key ≡ None) c.self.view_is (sym c.in-None.ensures))
     (λ q. c.in_ok-id-in-None.ensures.numbers q ∙ ap (λ (cs : List (List ℕ × ℕ)). cond (eq_by_cmp bytes_cmp c.args.w.now.key q) (Some c.in_ok-id-in-None.id) (chain_of cs q)) c.self.view_is)
     c.known.ensures.live c.write_into-in-None.ensures.live
