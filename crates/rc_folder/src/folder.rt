@@ -8,6 +8,7 @@ ghost use Rattle.rc_outside.specs.Faults.{RisesIfFault};
 ghost use Rattle.rc_mutation.specs.declared.mutations.Mutation.{Mutation};
 ghost use Rattle.rc_mutation.specs.Source.{IsJoinOf, IsMutation};
 ghost use Rattle.rc_stream.specs.Causes.{Caused};
+ghost use Rattle.rc_tfile.specs.declared.info.TableInfo.{TableInfo};
 ghost use Rattle.rc_tfile.specs.Info.{info_of};
 ghost use Rattle.rc_tfile.specs.Items.{IsItem};
 ghost use Rattle.rc_tfile.specs.Stored.{OnWriteFault};
@@ -19,7 +20,7 @@ ghost use Rattle.rc_machine.specs.Standing.{IsOver};
 ghost use Rattle.rc_machine.specs.Steps.{IsSaid};
 ghost use Rattle.rc_machine.specs.Serving.{checks_of};
 ghost use Rattle.rc_folder.specs.Opening.{IsOpeningRefused, OnOpenFault};
-ghost use Rattle.rc_folder.specs.Tabled.{IsTableAdded, IsNextNumber};
+ghost use Rattle.rc_folder.specs.Tabled.{IsSaidByFirst, IsTableAdded, IsNextNumber};
 
 use crate::opening::{OpenErr, check_tables};
 use rc_mutation::{Mutation, Partition};
@@ -90,7 +91,38 @@ impl Folder {
         ensures store { HoldsSameFiles W.files W.building store.old store.new }
         ensures asks { W.asks store.new ≤ W.asks store.old + 2 * listing key.now self.now.infos }
     {
-        read_joined(alloc, store, &self.tables, &self.schema, key)
+        self.read_first(alloc, store, key, &self.tables)
+    }
+
+    /// What the first tables of the folder, those that a reader kept (`tables`), say of the partition of a key, joined; as `read`, but of
+    /// these tables alone.
+    pub fn read_first<W: Store>(
+        &self,
+        alloc: Global,
+        store: &mut W,
+        key: &PartKey,
+        first: &TableSet,
+    ) -> Result<Mutation, StreamErr>
+        requires { (m : State) × (later : List TableInfo) × IsOver (W.files store.old) self.now.schema self.now.infos m × (self.now.infos ≡ first.now ++ later) }
+        ensures said { (m : State) (later : List TableInfo) → IsOver (W.files store.old) self.now.schema self.now.infos m → self.now.infos ≡ first.now ++ later
+            → IfOk result (λ change. (said : List Mutation) × IsSaidByFirst m first.now key.now said × IsJoinOf change said) }
+        ensures mutation { IfOk result IsMutation }
+        ensures some { IfOk result (IsSomeJoin self.now.schema first.now key.now) }
+        ensures damaged { IfErr result (IsDamageOf self.now.schema key.now first.now) }
+        ensures cause { Caused result (W.files store.old) (W.faults store.old) (W.faults store.new) }
+        ensures store { HoldsSameFiles W.files W.building store.old store.new }
+        ensures asks { W.asks store.new ≤ W.asks store.old + 2 * listing key.now first.now }
+    {
+        read_joined(alloc, store, first, &self.schema, key)
+    }
+
+    /// The tables that the folder has now, shared. Tables are only added, so these stay the first ones: who keeps them can read what they
+    /// say whatever is flushed meanwhile (`read_first`). No memory is taken. The only error is a full count of those who share them, which
+    /// is answered as want of memory.
+    pub fn tables(&self) -> Result<TableSet, AllocError>
+        ensures { IfOk result (λ tables. tables ≡ self.now.infos) }
+    {
+        self.tables.share()
     }
 
     /// The number of the next table: one more than the last one's, or 1; none behind the greatest.

@@ -13,7 +13,7 @@ use Rattle.rc_opened.specs.declared.no_files.NoFiles.{NoFiles}
 use Rattle.rc_snapshots.specs.declared.snaps.Snaps.{Snaps}
 use Rattle.rc_opened.specs.declared.written.Written.{Written}
 use Rattle.rc_opened.specs.declared.opened.Opened.{Opened}
-use Rattle.rc_opened.specs.Opened.{AreStreamsOf, GivesLines, OfSources, active_stream_of, no_files, sealed_stream_of, snaps_in, snaps_of}
+use Rattle.rc_opened.specs.Opened.{AreStreamsOf, GivesLines, OfSources, SeeSomeChanges, active_stream_of, no_files, sealed_stream_of, snaps_in, snaps_of}
 use Rattle.rc_opened.specs.Written.{DidAs, IsStreamOf, OfSnapshot, snap_in}
 use Rattle.rc_opened.proofs.Kept.{in_turn, merges}
 
@@ -99,7 +99,11 @@ own_snaps snaps s are =
 pub own_streams : (snaps : Snaps) (s : OfSources) → AreStreamsOf snaps s → AreStreamsOf (snaps_in s) s
 own_streams snaps s are = subst (λ those. AreStreamsOf those s) (sym (own_snaps snaps s are)) are
 
+-- over the same chains the same snapshots see what some changes say
+pub still-see : (m n : Memory) (snaps those : Snaps) → n ≡ m → those ≡ snaps → SeeSomeChanges m snaps → SeeSomeChanges n those
+still-see m n snaps those e f see = subst (λ x. SeeSomeChanges x those) (sym e) (subst (SeeSomeChanges m) (sym f) see)
+
 -- what is left over a store that is the one of no files
 pub gives-at : (ready : OfSources → Memory → NoFiles → Type 0) (seen : OfSources → Memory → NoFiles → Stream → Type 0) (m : Memory) (o : Opened) (lines : List OutLine) (store : NoFiles) → store ≡ no_files → ready o.reader.stream m store → AreLeft seen o.reader m store lines →
-    AreStreamsOf (snaps_of o) o.reader.stream → GivesLines ready seen m o lines
-gives-at ready seen m o lines store e may left streams = record { may = subst (ready o.reader.stream m) e may; left = subst (λ x. AreLeft seen o.reader m x lines) e left; streams = streams }
+    AreStreamsOf (snaps_of o) o.reader.stream → SeeSomeChanges m (snaps_of o) → GivesLines ready seen m o lines
+gives-at ready seen m o lines store e may left streams see = record { may = subst (ready o.reader.stream m) e may; left = subst (λ x. AreLeft seen o.reader m x lines) e left; streams = streams; see = see }

@@ -6,4 +6,5 @@ pub mod Same
 pub mod Called
 pub mod Moving
 pub mod Fresh
+pub mod InFront
 pub mod Still

@@ -1,3 +1,4 @@
+pub mod Behind
 pub mod Opened
 pub mod Written
 pub mod calls

@@ -1,5 +1,6 @@
 -- What is left to an open reader over the chains that its snapshots are of.
 --     AreChangesOf   changes are such as the program has, and fit a schema
+--     SeeSomeChanges its snapshots see what some changes say
 --     GivesLines     these lines are left
 use Rattle.std.specs.Prelude.{All, false, List, Result, Ok, Err, ℕ, drop}
 use Rattle.std.specs.declared.alloc.AllocError.{AllocError}
@@ -13,6 +14,7 @@ use Rattle.rc_stream.specs.Stream.{Stream}
 use Rattle.rc_stream.specs.declared.merges.Merge.{Merge}
 use Rattle.rc_reader.specs.Left.{AreLeft}
 use Rattle.rc_snapshots.specs.declared.snaps.Snaps.{Snaps}
+use Rattle.rc_snapshots.specs.Seeing.{SeesAllOf}
 use Rattle.rc_opened.specs.declared.no_files.NoFiles.{NoFiles}
 use Rattle.rc_opened.specs.declared.opened.Opened.{Opened}
 use Rattle.rc_opened.specs.declared.written.Written.{Written}
@@ -52,11 +54,19 @@ pub record AreStreamsOf (snaps : Snaps) (s : OfSources) : Type 0 where
   pub sealed : IsStreamOf snaps.sealed (sealed_stream_of s).stream
   pub active : IsStreamOf snaps.active (active_stream_of s).stream
 
--- These lines are left to an open reader over chains: its stream may be called, leaves them, and is that of its snapshots.
+-- the snapshots see what some changes say
+pub record SeeSomeChanges (m : Memory) (snaps : Snaps) : Type 0 where
+  pub writes : List Mutation
+  pub later : List Mutation
+  pub sealed : SeesAllOf writes m snaps.sealed
+  pub active : SeesAllOf later m snaps.active
+
+-- These lines are left to an open reader over chains: its stream may be called, leaves them, and is that of its snapshots, which see what some changes say.
 pub record GivesLines (ready : OfSources → Memory → NoFiles → Type 0) (seen : OfSources → Memory → NoFiles → Stream → Type 0) (m : Memory) (o : Opened) (lines : List OutLine) : Type 0 where
   pub may : ready o.reader.stream m no_files
   pub left : AreLeft seen o.reader m no_files lines
   pub streams : AreStreamsOf (snaps_of o) o.reader.stream
+  pub see : SeeSomeChanges m (snaps_of o)
 
 -- what is left of lines after the first so many were given; all of them, where memory was refused
 abbrev pub left_behind : {T : Type 0} → Result T AllocError → ℕ → List OutLine → List OutLine

@@ -1,2 +1,3 @@
 -- What inner functions of this crate promise each other; no public clause speaks of it.
 pub mod Opened
+pub mod Behind

@@ -15,7 +15,8 @@ use Rattle.rc_query.specs.declared.lines.OutLine.{OutLine}
 use Rattle.rc_query.specs.declared.lines.OutLine.TheVariants as line
 use Rattle.rc_query.specs.Answer.{answer, live_values, row_lines, sliced_from, static_line}
 use Rattle.rc_paging.specs.declared.remainders.Remainder.{Remainder}
-use Rattle.rc_paging.specs.Remainders.{IsPlacedIn, after_line, after_lines, begins_static, count_given, given_before, last_of}
+use Rattle.rc_paging.specs.Remainders.{IsPlacedIn, begins_static, count_given, given_before}
+use Rattle.rc_paging.specs.calls.Remainders.{after_line, after_lines, last_of}
 use Rattle.rc_paging.proofs.Cutting.{AreRows, all_rows_lines, from_line}
 
 -- ---- the last of lines
@@ -57,12 +58,12 @@ parted (suc n) (l ∷ ls) = ap (λ x. l ∷ x) (parted n ls)
 
 -- ---- rows
 
-no_static : (c d : List OutLine) (v : List (ℕ × List ℕ)) → AreRows (c ++ (line.Static v ∷ d)) → ⊥
+pub no_static : (c d : List OutLine) (v : List (ℕ × List ℕ)) → AreRows (c ++ (line.Static v ∷ d)) → ⊥
 no_static [] d v h = h
 no_static (line.Static w ∷ c) d v h = h
 no_static (line.Row k w ∷ c) d v h = no_static c d v h
 
-rows_dropped : (n : ℕ) (ls : List OutLine) → AreRows ls → AreRows (drop n ls)
+pub rows_dropped : (n : ℕ) (ls : List OutLine) → AreRows ls → AreRows (drop n ls)
 rows_dropped zero ls h = h
 rows_dropped (suc n) [] h = tt
 rows_dropped (suc n) (line.Static w ∷ ls) h = absurd h
@@ -78,10 +79,10 @@ by_static : (b : Bool) (v : List (ℕ × List ℕ)) → ((if b then Some (line.S
 by_static true v = inr (v, refl)
 by_static false v = inl refl
 
-static_or : (head : Option Tomb) (rows : List Row) → (static_line head rows ≡ None) ⊎ ((w : List (ℕ × List ℕ)) × (static_line head rows ≡ Some (line.Static w)))
+pub static_or : (head : Option Tomb) (rows : List Row) → (static_line head rows ≡ None) ⊎ ((w : List (ℕ × List ℕ)) × (static_line head rows ≡ Some (line.Static w)))
 static_or head rows = (let values = live_values head (winners (all_cells rows)) in by_static (has_any values) values)
 
-answer_is : (writes : List Mutation) (slice : Slice) → answer writes slice ≡ option_to_list (static_line (source_at_head writes) (static_rows writes)) ++ row_lines writes slice
+pub answer_is : (writes : List Mutation) (slice : Slice) → answer writes slice ≡ option_to_list (static_line (source_at_head writes) (static_rows writes)) ++ row_lines writes slice
 unfolding answer
 answer_is writes slice = refl
 
@@ -120,7 +121,7 @@ starts a x w b e h = ap (λ y. begins_static (y ∷ (a ++ b))) e ∙ still w h
     still (line.Static v) h = refl
     still (line.Row k v) h = absurd (cc)
 
-ends_row : (s : Option OutLine) (rows : List OutLine) (told row : Bool) (a left : List OutLine) (key : List Comp) (v : List (ℕ × List ℕ)) → AreRows rows → (s ≡ None) ⊎ ((w : List (ℕ × List ℕ)) × (s ≡ Some (line.Static w))) → ((told || row) ≡ true → told ≡ is_some s) →
+pub ends_row : (s : Option OutLine) (rows : List OutLine) (told row : Bool) (a left : List OutLine) (key : List Comp) (v : List (ℕ × List ℕ)) → AreRows rows → (s ≡ None) ⊎ ((w : List (ℕ × List ℕ)) × (s ≡ Some (line.Static w))) → ((told || row) ≡ true → told ≡ is_some s) →
     drop (count_given told row) (option_to_list s ++ rows) ≡ a ++ (line.Row key v ∷ left) → EndsWithRow s rows (told || begins_static (a ++ (line.Row key v ∷ []))) key v left
 ends_row None rows true row a left key v are is placed h = (let none : true ≡ false = placed refl in absurd (cc))
 ends_row None rows false false a left key v are is placed h = record {

@@ -24,7 +24,7 @@ use Rattle.rc_paging.specs.declared.memtables.MemtableStream.{MemtableStream}
 use Rattle.rc_paging.specs.declared.optional.Optional.{Optional}
 use Rattle.rc_paging.specs.Memtables.{DidAsOne}
 use Rattle.rc_paging.specs.Optional.{DidIfAny, WithBoth}
-use Rattle.rc_paging.specs.Layers.{IsCacheLayerOf, IsMemtableLayerOf, OfLayers, cached_in}
+use Rattle.rc_paging.specs.calls.Layers.{IsCacheLayerOf, IsMemtableLayerOf, OfLayers, cached_in}
 use Rattle.rc_paging.specs.Pages.{IsKnownWhole}
 use Rattle.rc_paging.specs.calls.Keeping.{KeptCache, KeptLayers, Three}
 use Rattle.rc_cached.specs.calls.Parts.{of_its_filler, of_snapshot, of_underlying}

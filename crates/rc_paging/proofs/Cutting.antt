@@ -49,7 +49,7 @@ not_true false h = refl
 bounds : (slice : Slice) (k : List Comp) → in_slice slice k ≡ true → (lt (row_pos k) slice.from ≡ false) × (lt (row_pos k) slice.to ≡ true)
 bounds slice k h = (let b = both_true (not (lt (row_pos k) slice.from)) (lt (row_pos k) slice.to) (sym (covers-lt slice.from slice.to (row_pos k)) ∙ h) in (not_true (lt (row_pos k) slice.from) b.0, b.1))
 
-by_bounds : (slice : Slice) (k : List Comp) (a b : Bool) → lt (row_pos k) slice.from ≡ a → lt (row_pos k) slice.to ≡ b → in_slice slice k ≡ (not a && b)
+pub by_bounds : (slice : Slice) (k : List Comp) (a b : Bool) → lt (row_pos k) slice.from ≡ a → lt (row_pos k) slice.to ≡ b → in_slice slice k ≡ (not a && b)
 by_bounds slice k a b e f = covers-lt slice.from slice.to (row_pos k) ∙ (λ i. not (e i) && f i)
 
 -- one that is not in it is in no part of it from a key on that is
@@ -238,6 +238,10 @@ from_line changes slice key v a b h =
     let es = map.entries m in
     let is = line_in (line_at changes) (of_key changes) slice key v b es a h in
     cut (line_at changes) (of_key changes) slice key v b is es (map.entries_sorted m) a h
+
+-- and that row is not before where the slice begins
+pub line_from : (changes : List Mutation) (slice : Slice) (key : List Comp) (v : Shown) (a b : List OutLine) → row_lines changes slice ≡ a ++ (line.Row key v ∷ b) → lt (row_pos key) slice.from ≡ false
+line_from changes slice key v a b h = (bounds slice key (line_in (line_at changes) (of_key changes) slice key v b (map.entries (map.from_entries {R = key_cmp} (all_rows changes))) a h)).0
 
 -- row lines are of rows
 pub all_rows_lines : (changes : List Mutation) (slice : Slice) → AreRows (row_lines changes slice)

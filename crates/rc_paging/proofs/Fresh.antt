@@ -19,7 +19,7 @@ use Rattle.rc_cached.specs.declared.readings.Readings.{Readings}
 use Rattle.rc_cached.specs.Leaving.{LeavesChains}
 use Rattle.rc_cached.specs.Streams.{IsNewCached, IsOfCached, OfCache, StillSays, read_below}
 use Rattle.rc_paging.specs.declared.memtables.MemtableStream.{MemtableStream}
-use Rattle.rc_paging.specs.Layers.{IsCacheLayerOf, IsMemtableLayerOf, IsNewCacheLayer, IsNewMemtableLayer}
+use Rattle.rc_paging.specs.calls.Layers.{IsCacheLayerOf, IsMemtableLayerOf, IsNewCacheLayer, IsNewMemtableLayer}
 use Rattle.rc_paging.specs.Memtables.{IsOfMemtable}
 use Rattle.rc_paging.specs.Pages.{StandCached, StandsCached}
 use Rattle.rc_paging.specs.calls.Standing.{StillSeesIn}

@@ -10,3 +10,7 @@ pub mod Saying
 pub mod Fresh
 pub mod Served
 pub mod Paged
+pub mod GoingOn
+pub mod OfForms
+pub mod OneAnswer
+pub mod OfSlices

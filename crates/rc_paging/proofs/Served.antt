@@ -6,7 +6,7 @@ use Rattle.rc_memory.specs.Memory.{Memory}
 use Rattle.rc_chain.specs.declared.chains.Snap.{Snap}
 use Rattle.rc_stream.specs.Stream.{Stream}
 use Rattle.rc_filler.specs.Stands.{StandsForWrites}
-use Rattle.rc_snapshots.specs.Seeing.{SeesAllOf, StillSeeBoth, StillSees}
+use Rattle.rc_snapshots.specs.Seeing.{SeeSameChanges, SeesAllOf, SeesSameChanges, StillSees}
 use Rattle.rc_snapshots.specs.Streams.{SeesChanges}
 use Rattle.rc_cached.specs.declared.fillers.StreamFiller.{StreamFiller}
 use Rattle.rc_cached.specs.declared.readings.Readings.{Readings}
@@ -14,8 +14,9 @@ use Rattle.rc_cached.specs.Streams.{OfCache}
 use Rattle.rc_paging.specs.declared.layers.HeldSnaps.{HeldSnaps}
 use Rattle.rc_paging.specs.declared.memtables.MemtableStream.{MemtableStream}
 use Rattle.rc_paging.specs.declared.pages.PageErr.TheVariants.{Missing, NoMemory}
-use Rattle.rc_paging.specs.Layers.{AreLayersOf, IsCacheLayerOf, IsMemtableLayerOf, OfLayers, active_in, cache_snap_in, cached_in, held_in, memtable_snap_in, sealed_in}
-use Rattle.rc_paging.specs.Pages.{StandCached, StandFor, readings_with, why}
+use Rattle.rc_paging.specs.calls.Layers.{AreLayersOf, IsCacheLayerOf, IsMemtableLayerOf, OfLayers, active_in, cache_snap_in, cached_in, held_in, memtable_snap_in, sealed_in}
+use Rattle.rc_paging.specs.Pages.{StandCached, StandFor, readings_with}
+use Rattle.rc_paging.specs.calls.Pages.{why}
 use Rattle.rc_paging.specs.calls.Keeping.{KeptLayers}
 use Rattle.rc_paging.specs.calls.Words.{IsReadIn, IsReaderIn}
 
@@ -77,14 +78,10 @@ missing_of (Some s) (Some l) (Some r) missed is h e = (let none : NoMemory ≡ M
 
 -- ---- over other chains
 
-see_all : (changes : List Mutation) (m n : Memory) → ((old new : Memory) (s : Snap) → SeesChanges changes old s → StillSees s old new → SeesChanges changes new s) → (snap : Option Snap) → IfSome snap (λ s. StillSees s m n) → SeesAllOf changes m snap → SeesAllOf changes n snap
-see_all changes m n law None still sees = sees
-see_all changes m n law (Some s) still sees = law m n s sees still
-
-pub stand_over : (S : ℕ) (held : HeldSnaps) (m n : Memory) (below writes later : List Mutation) → ((changes : List Mutation) (old new : Memory) (s : Snap) → SeesChanges changes old s → StillSees s old new → SeesChanges changes new s) →
-    StandCached S below n held.cached → StillSeeBoth held.written m n → StandFor S m held below writes later → StandFor S n held below writes later
-stand_over S held m n below writes later law cached still stand = record {
+pub stand_over : (S : ℕ) (held : HeldSnaps) (m n : Memory) (below writes later : List Mutation) → ((changes : List Mutation) (old new : Memory) (o : Option Snap) → IfSome o (λ s. SeesSameChanges s old new) → SeesAllOf changes old o → SeesAllOf changes new o) →
+    StandCached S below n held.cached → SeeSameChanges held.written m n → StandFor S m held below writes later → StandFor S n held below writes later
+stand_over S held m n below writes later law cached same stand = record {
   cached = cached;
-  sealed = see_all writes m n (law writes) held.written.sealed still.sealed stand.sealed;
-  active = see_all later m n (law later) held.written.active still.active stand.active;
+  sealed = law writes m n held.written.sealed same.sealed stand.sealed;
+  active = law later m n held.written.active same.active stand.active;
 }

@@ -1,6 +1,7 @@
-pub mod Layers
+pub mod Forms
 pub mod Memtables
 pub mod Optional
 pub mod Pages
+pub mod Past
 pub mod Remainders
 pub mod calls

@@ -3,7 +3,7 @@
 --     LinesAreLeft    these lines are left to an open reader
 --     IsKnownWhole    all of the partition is known to the row cache
 --     left_on         what is left of lines after a page
-use Rattle.std.specs.Prelude.{◌≡◌, ◌++◌, ℕ, Bool, false, cond, List, [], Option, IfSome, MatchOption, Result, Ok, Err, drop}
+use Rattle.std.specs.Prelude.{◌≡◌, ◌++◌, ℕ, false, List, [], Option, IfSome, MatchOption, Result, Ok, Err, drop, take}
 use Rattle.rc_mutation.specs.declared.mutations.Mutation.{Mutation}
 use Rattle.rc_schema.specs.SchemaValue.{SchemaValue}
 use Rattle.rc_query.specs.declared.lines.OutLine.{OutLine}
@@ -24,7 +24,6 @@ use Rattle.rc_cached.specs.Streams.{filler_for}
 use Rattle.rc_paging.specs.declared.layers.HeldSnaps.{HeldSnaps}
 use Rattle.rc_paging.specs.declared.pages.OpenReader.{OpenReader}
 use Rattle.rc_paging.specs.declared.pages.PageErr.{PageErr}
-use Rattle.rc_paging.specs.declared.pages.PageErr.TheVariants.{Missing, NoMemory}
 use Rattle.rc_paging.specs.Remainders.{IsPlacedIn, given_before}
 
 -- readings that have this
@@ -46,7 +45,7 @@ pub record StandFor (S : ℕ) (m : Memory) (held : HeldSnaps) (below writes late
   pub sealed : SeesAllOf writes m held.written.sealed
   pub active : SeesAllOf later m held.written.active
 
--- these lines are left to an open reader, where the tables say this: its snapshots stand for that, and for what is sealed and written since, such as the program has; of the answer to all of it, in what is left of the slice, they are those behind the lines that were given before
+-- these lines are left to an open reader, where the tables say this: its snapshots stand for that, and for what is sealed and written since, such as the program has; of the answer to all of it, in what is left of the slice, they are those behind the lines that were given before; and once a page told whether there is one, the next of them is kept; until then none was given
 pub record LinesAreLeft (S : ℕ) (m : Memory) (o : OpenReader) (below : List Mutation) (lines : List OutLine) : Type 0 where
   pub schema : SchemaValue
   pub writes : List Mutation
@@ -57,6 +56,7 @@ pub record LinesAreLeft (S : ℕ) (m : Memory) (o : OpenReader) (below : List Mu
   pub stand : StandFor S m o.held below writes later
   pub placed : IsPlacedIn (below ++ (writes ++ later)) o.remainder
   pub are : lines ≡ drop (given_before o.remainder) (answer (below ++ (writes ++ later)) o.remainder.slice)
+  pub told : MatchOption o.behind (given_before o.remainder ≡ 0) (λ kept. kept ≡ take 1 lines)
 
 -- all of the partition is known to the snapshot of the row cache, where there is one: the static row, and each position
 abbrev pub IsKnownWhole : Memory → Option Snap → Type 0
@@ -66,7 +66,3 @@ IsKnownWhole m snap = IfSome snap (λ s. IsAllKnown (Knows m s) (IsHeadSeen m s)
 abbrev pub left_on : {T : Type 0} → Result T PageErr → ℕ → List OutLine → List OutLine
 left_on (Ok given) n lines = drop n lines
 left_on (Err e) n lines = lines
-
--- why a call was refused, by whether readings missed something: what was not read; else memory
-abbrev pub why : Bool → PageErr
-why missed = cond missed Missing NoMemory

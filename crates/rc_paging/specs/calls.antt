@@ -2,3 +2,6 @@
 pub mod Words
 pub mod Keeping
 pub mod Standing
+pub mod Layers
+pub mod Pages
+pub mod Remainders

@@ -1,6 +1,6 @@
 // What an open reader reads.
 ghost use Rattle.std.specs.Prelude.{◌≡◌, None, Some};
-ghost use Rattle.rc_paging.specs.Layers.{AreLayers, IsNewMemtableLayer, IsNewCacheLayer, held_in, memtable_snap_in, none_held, cache_snap_in};
+ghost use Rattle.rc_paging.specs.calls.Layers.{AreLayers, IsNewMemtableLayer, IsNewCacheLayer, held_in, memtable_snap_in, none_held, cache_snap_in};
 
 use crate::memtables::MemtableStream;
 use crate::optional::Optional;
@@ -131,7 +131,7 @@ pub(crate) fn put_back(place: &mut HeldSnaps, held: HeldSnaps)
 }
 
 // There is no snapshot, which is let go.
-fn none_there(snap: Option<Snap>)
+pub(crate) fn none_there(snap: Option<Snap>)
     requires { snap ≡ None }
 {
     match snap {

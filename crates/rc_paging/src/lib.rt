@@ -2,6 +2,7 @@
 #![tactic(auto)]
 
 mod filling;
+mod forms;
 pub mod laws;
 mod layers;
 mod memtables;
@@ -9,10 +10,12 @@ mod opening;
 mod optional;
 mod pages;
 mod paging;
+mod past;
 mod remainders;
 mod serving;
 mod standing;
 
+pub use forms::{LeavesOver, PartReader};
 pub use layers::{HeldSnaps, Layers};
 pub use memtables::MemtableStream;
 pub use optional::Optional;

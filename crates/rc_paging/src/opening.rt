@@ -12,7 +12,7 @@ ghost use Rattle.rc_opened.specs.Opened.{AreChangesOf};
 ghost use Rattle.rc_cached.specs.declared.readings.Readings.{Readings as Read};
 ghost use Rattle.rc_cached.specs.Streams.{SayBelow};
 ghost use Rattle.rc_paging.specs.declared.layers.HeldSnaps.{HeldSnaps};
-ghost use Rattle.rc_paging.specs.Layers.{AreLayers, AreLayersOf, OfLayers, cached_in};
+ghost use Rattle.rc_paging.specs.calls.Layers.{AreLayers, AreLayersOf, OfLayers, cached_in};
 ghost use Rattle.rc_paging.specs.Pages.{StandFor};
 ghost use Rattle.rc_paging.specs.calls.Words.{IsReaderIn};
 

@@ -9,6 +9,8 @@ ghost use Rattle.rc_opened.specs.Opened.{AreChangesOf};
 ghost use Rattle.rc_cached.specs.Leaving.{LeavesChains};
 ghost use Rattle.rc_cached.specs.Streams.{SayBelow};
 ghost use Rattle.rc_paging.specs.declared.pages.PageErr.TheVariants.{Missing, NoMemory};
+ghost use Rattle.rc_position.specs.declared.slices.Slice.{Slice as Part};
+ghost use Rattle.rc_paging.specs.Remainders.{IsRemainderOf};
 ghost use Rattle.rc_paging.specs.Pages.{IsKnownWhole, LinesAreLeft, StandFor, left_on, readings_with};
 
 use crate::layers::{HeldSnaps, put_back, take_out};
@@ -29,16 +31,18 @@ pub enum PageErr {
     NoMemory,
 }
 
-/// An open reader of a slice of one partition: snapshots of what the row cache has of it and of what stands in no table, and what is left of the slice. It is read a page at a time over the chains of these snapshots. Between two pages it holds nothing in the chains but its snapshots, so others may fill, evict and write meanwhile.
+/// An open reader of a slice of one partition: snapshots of what the row cache has of it and of what stands in no table, what is left of the slice, and the line that is to come next, once a page told whether there is one. It is read a page at a time over the chains of these snapshots. Between two pages it holds nothing in the chains but its snapshots, so others may fill, evict and write meanwhile.
 pub struct OpenReader {
     pub(crate) held: HeldSnaps,
     pub(crate) remainder: Remainder,
+    pub(crate) behind: Option<Lines>,
 }
 
 impl OpenReader {
     /// A reader from the beginning of a slice on, of the partition of which these are the snapshots. It takes no memory, and reads nothing yet.
     pub fn open(held: HeldSnaps, slice: Slice) -> Self
         ensures held { result.held ≡ held }
+        ensures of { IsRemainderOf slice result.remainder }
         ensures lines { (S : ℕ) (m : Memory) (schema : SchemaValue) (below writes later : List Mutation) → AreChangesOf schema below → AreChangesOf schema writes → AreChangesOf schema later → StandFor S m held below writes later →
             LinesAreLeft S m result below (answer (below ++ (writes ++ later)) slice) }
     {
@@ -49,6 +53,7 @@ impl OpenReader {
                 static_given: false,
                 row_given: false,
             },
+            behind: None,
         }
     }
 
@@ -64,6 +69,7 @@ impl OpenReader {
         ensures gives { (below : List Mutation) (lines : List OutLine) → LinesAreLeft S chains.old self.old below lines → SayBelow below (readings_with read) → IfOk result (λ gave. gave.0 ≡ take count lines) }
         ensures more { (below : List Mutation) (lines : List OutLine) → LinesAreLeft S chains.old self.old below lines → SayBelow below (readings_with read) → IfOk result (λ gave. gave.1 ≡ nat_lt count (length lines)) }
         ensures left { (below : List Mutation) (lines : List OutLine) → LinesAreLeft S chains.old self.old below lines → SayBelow below (readings_with read) → LinesAreLeft S chains.new self.new below (left_on result count lines) }
+        ensures of { (slice : Part) → IsRemainderOf slice self.old.remainder → IsRemainderOf slice self.new.remainder }
         ensures held { self.new.held ≡ self.old.held }
         ensures missing { IfErr result (λ e. e ≡ Missing → IsSome self.old.held.cached × (read ≡ None)) }
         ensures known { IsKnownWhole chains.old self.old.held.cached → IfErr result (λ e. e ≡ NoMemory) }
@@ -74,10 +80,15 @@ impl OpenReader {
         let (held, gave) = serve(alloc, chains, held, read, &self.remainder, count);
         put_back(&mut self.held, held);
         match gave {
-            Ok((lines, more)) => match self.remainder.go_behind(alloc, lines.as_slice()) {
-                Ok(()) => Ok((lines, more)),
-                Err(_) => Err(PageErr::NoMemory),
-            },
+            Ok((lines, more, behind)) => {
+                match self.remainder.go_behind(alloc, lines.as_slice()) {
+                    Ok(()) => {
+                        self.behind = Some(behind);
+                        Ok((lines, more))
+                    }
+                    Err(_) => Err(PageErr::NoMemory),
+                }
+            }
             Err(error) => Err(error),
         }
     }
@@ -86,7 +97,11 @@ impl OpenReader {
     pub fn into_held(self) -> HeldSnaps
         ensures { result ≡ self.held }
     {
-        let OpenReader { held, remainder: _ } = self;
+        let OpenReader {
+            held,
+            remainder: _remainder,
+            behind: _behind,
+        } = self;
         held
     }
 }

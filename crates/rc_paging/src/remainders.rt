@@ -1,8 +1,10 @@
 // What is left of a slice behind the lines that were given of it.
 ghost use Rattle.std.specs.Prelude.{◌≡◌, IfOk, OnOk, OnErr, option_copied};
 ghost use Rattle.rc_position.specs.Position.{row_pos};
-ghost use Rattle.rc_paging.specs.Remainders.{after_lines, begins_static, given_before, last_of};
+ghost use Rattle.rc_paging.specs.Remainders.{given_before};
+ghost use Rattle.rc_paging.specs.calls.Remainders.{after_lines, last_of};
 
+use rc_opened::begins_static;
 use rc_position::{Key, Pos, Slice, Weight};
 use rc_query::OutLine;
 use std::alloc::{AllocError, Global};
@@ -59,17 +61,6 @@ fn row_place(alloc: Global, key: &Key) -> Result<Pos, AllocError>
         prefix: key.copy(alloc)?,
         weight: Weight::At,
     })
-}
-
-// Whether lines begin with a static line.
-fn begins_static(lines: &[OutLine]) -> bool
-    ensures { result ≡ begins_static lines.now }
-{
-    match lines {
-        [OutLine::Static(_), _rest @ ..] => true,
-        [OutLine::Row(..), _rest @ ..] => false,
-        [] => false,
-    }
 }
 
 // The last line, if there is one.

@@ -7,7 +7,8 @@ ghost use Rattle.rc_opened.specs.Opened.{AreChangesOf};
 ghost use Rattle.rc_cached.specs.Leaving.{LeavesChains};
 ghost use Rattle.rc_cached.specs.Streams.{SayBelow};
 ghost use Rattle.rc_paging.specs.declared.pages.PageErr.TheVariants.{Missing, NoMemory};
-ghost use Rattle.rc_paging.specs.Pages.{IsKnownWhole, StandFor, readings_with, why};
+ghost use Rattle.rc_paging.specs.Pages.{IsKnownWhole, StandFor, readings_with};
+ghost use Rattle.rc_paging.specs.calls.Pages.{why};
 ghost use Rattle.rc_paging.specs.Remainders.{given_before};
 
 use crate::filling::filled_ahead;
@@ -44,7 +45,7 @@ fn cause(readings: &Readings) -> PageErr
     }
 }
 
-// Gives the first lines of what is left of a slice, at most `count`, and whether there are more behind them; and gives the snapshots back. Where what the tables say was handed in, all that is left of the slice is filled then, so that a later page does not ask for it again.
+// Gives the first lines of what is left of a slice, at most `count`, whether there are more behind them, and the one right behind them, if there is one; and gives the snapshots back. Where what the tables say was handed in, all that is left of the slice is filled then, so that a later page does not ask for it again.
 pub(crate) fn serve<const S: usize>(
     alloc: Global,
     chains: &mut Chains<S>,
@@ -52,12 +53,14 @@ pub(crate) fn serve<const S: usize>(
     read: Option<ListFrags>,
     remainder: &Remainder,
     count: u32,
-) -> (HeldSnaps, Result<(Lines, bool), PageErr>)
+) -> (HeldSnaps, Result<(Lines, bool, Lines), PageErr>)
     requires { (below : List Mutation) × (writes : List Mutation) × (later : List Mutation) × StandFor S chains.old held below writes later × SayBelow below (readings_with read) }
     ensures gives { (schema : SchemaValue) (below writes later : List Mutation) → AreChangesOf schema below → AreChangesOf schema writes → AreChangesOf schema later → StandFor S chains.old held below writes later → SayBelow below (readings_with read) →
         IfOk result.1 (λ gave. gave.0 ≡ take count (drop (given_before remainder.now) (answer (below ++ (writes ++ later)) remainder.now.slice))) }
     ensures more { (schema : SchemaValue) (below writes later : List Mutation) → AreChangesOf schema below → AreChangesOf schema writes → AreChangesOf schema later → StandFor S chains.old held below writes later → SayBelow below (readings_with read) →
         IfOk result.1 (λ gave. gave.1 ≡ nat_lt count (length (drop (given_before remainder.now) (answer (below ++ (writes ++ later)) remainder.now.slice)))) }
+    ensures behind { (schema : SchemaValue) (below writes later : List Mutation) → AreChangesOf schema below → AreChangesOf schema writes → AreChangesOf schema later → StandFor S chains.old held below writes later → SayBelow below (readings_with read) →
+        IfOk result.1 (λ gave. gave.2 ≡ take 1 (drop count (drop (given_before remainder.now) (answer (below ++ (writes ++ later)) remainder.now.slice)))) }
     ensures held { result.0 ≡ held }
     ensures stand { (below writes later : List Mutation) → StandFor S chains.old held below writes later → SayBelow below (readings_with read) → StandFor S chains.new held below writes later }
     ensures missing { IfErr result.1 (λ e. e ≡ Missing → IsSome held.cached × (read ≡ None)) }

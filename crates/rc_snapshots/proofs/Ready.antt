@@ -18,7 +18,7 @@ use Rattle.rc_cursor.specs.Snap.{Snap}
 use Rattle.rc_stream.specs.Snapshot.{SayThere, There}
 use Rattle.rc_stream.specs.Stream.{Stream, stream_of}
 use Rattle.rc_cursor.specs.declared.readers.SnapshotReader.{SnapshotReader}
-use Rattle.rc_cursor.specs.Snapshots.{AreReadable, IsHeadOf, IsKnownAs, kind_seen, versions_seen}
+use Rattle.rc_cursor.specs.Snapshots.{AreReadable, IsHeadOf, IsHeadSeen, IsKnownAs, Knows, kind_seen, versions_seen}
 use Rattle.rc_cacheread.specs.declared.readers.CacheReader.{CacheReader}
 use Rattle.rc_cacheread.specs.declared.readers.Stage.TheVariants.{Away}
 use Rattle.rc_cacheread.specs.declared.spots.RowAt.TheVariants.{Unread}
@@ -75,10 +75,16 @@ pub new-is-of : (s : Snap) (r : Reader) → IsNewStream s r → IsOf s r
 new-is-of s r is = record { snap = ap (λ (k : SnapshotReader). k.snap) is.known; filler = is.filler }
 
 module _ (known : (versions : List Version) → EachOf AllInherit versions → (x : Pos) → IsKnown Memtable versions x) (s : Snap) (changes : List Mutation) (m : Memory) (sees : SeesChanges changes m s) where
-  all-known : IsAllKnown (kn.knows (from_start s) m) (kn.heads (from_start s) m) first_position end_position
-  all-known = record {
-    each = λ y _ _. (content (states_at (On y) (versions_seen m s)), record { known = subst (λ q. IsKnown q (versions_seen m s) y) (sym sees.kind) (known (versions_seen m s) sees.inherit y); there = refl });
-    head = λ at h. h.known ∙ ap (λ q. has_flag q (static_states (versions_seen m s))) sees.kind ∙ statics-flagged (versions_seen m s) sees.inherit;
+  known-at : (y : Pos) (v : There) → content (states_at (On y) (versions_seen m s)) ≡ v → Knows m s y v
+  known-at y v e = record { known = subst (λ q. IsKnown q (versions_seen m s) y) (sym sees.kind) (known (versions_seen m s) sees.inherit y); there = e }
+
+  statics-known : has_flag (kind_seen m s) (static_states (versions_seen m s)) ≡ true
+  statics-known = ap (λ q. has_flag q (static_states (versions_seen m s))) sees.kind ∙ statics-flagged (versions_seen m s) sees.inherit
+
+  all-known : (from to : Pos) → IsAllKnown (kn.knows (from_start s) m) (kn.heads (from_start s) m) from to
+  all-known from to = record {
+    each = λ y _ _. (content (states_at (On y) (versions_seen m s)), known-at y (content (states_at (On y) (versions_seen m s))) refl);
+    head = λ at h. h.known ∙ statics-known;
   }
 
   -- the snapshot stands for all writes that say the same
@@ -92,7 +98,7 @@ module _ (known : (versions : List Version) → EachOf AllInherit versions → (
   module _ {W : Type 0} (w : W) (r : Reader) (is : IsNewStream s r) where
     -- of all those it is a reader
     new-reads : (writes : List Mutation) → SameSource writes changes → IsReaderOf kn (be W) fi writes (made s r.spot.since) m w
-    new-reads writes same = record { stands = stands writes same; covered = inl all-known }
+    new-reads writes same = record { stands = stands writes same; covered = inl (all-known first_position end_position) }
 
     pub new-ready : IsReady kn (be W) fi r m w
     new-ready = subst (λ q. IsReady kn (be W) fi q m w) (sym (is-made s r is)) (record {
@@ -115,7 +121,7 @@ module _ (known : (versions : List Version) → EachOf AllInherit versions → (
         reads = reads;
         pt = λ at h. h.pt ∙ sees.stands.head ∙ sym same.head ∙ sym pt;
         static_row = sym statics;
-        below = inl all-known;
+        below = inl (all-known first_position end_position);
       };
     })
 
@@ -171,5 +177,59 @@ module _ {W : Type 0} (s : Snap) (m n : Memory) (w v : W) (versions : versions_s
             pt = on (λ k vs. (at : HeadAt) → IsHeadOf k vs at → at.head.pt ≡ t.head.pt) x.pt;
             static_row = x.static_row;
             below = on (λ k vs. IsAllKnown (IsKnownAs k vs) (IsHeadOf k vs) (stand q.spot) q.to ⊎ IsSaidBelow (λ u. u ≡ q.below) q.stage q.to q.spot x.rest t.head.statics) x.below;
+          };
+        })
+
+-- ---- a stream over other chains, in which the snapshot sees what the same changes say
+
+module _ (known : (versions : List Version) → EachOf AllInherit versions → (x : Pos) → IsKnown Memtable versions x) (s : Snap) (changes : List Mutation) (m n : Memory) (was : SeesChanges changes m s) (is : SeesChanges changes n s) where
+  -- what it sees at the head it saw there
+  head-was : (at : HeadAt) → IsHeadSeen n s at → IsHeadSeen m s at
+  head-was at h = record {
+    pt = h.pt ∙ is.stands.head ∙ sym was.stands.head;
+    statics = h.statics ∙ ap (λ (v : There). v.0) (is.stands.statics ∙ sym was.stands.statics);
+    known = h.known ∙ statics-known known s changes n is ∙ sym (statics-known known s changes m was);
+  }
+
+  -- it stands for the writes for which it stood
+  alike-stands : (writes : List Mutation) → StandsNamed m (filler_of s) writes → StandsNamed n (filler_of s) writes
+  alike-stands writes h = record {
+    head = is.stands.head ∙ sym was.stands.head ∙ h.head;
+    there = λ x v a. h.there x v (known-at known s changes m was x v (was.stands.clustered x ∙ sym (is.stands.clustered x) ∙ a.there));
+    static_row = λ _. h.static_row (statics-known known s changes m was) ∙ ap (λ (v : There). v.0) (was.stands.statics ∙ sym is.stands.statics);
+  }
+
+  module _ {W : Type 0} (w v : W) (r : Reader) (of : IsOf s r) where
+    -- it is a reader of the same writes
+    alike-reads : (writes : List Mutation) → IsReaderOf kn (be W) fi writes (with_snap s r) m w → IsReaderOf kn (be W) fi writes (with_snap s r) n v
+    alike-reads writes h = record { stands = alike-stands writes h.stands; covered = inl (all-known known s changes n is (stand r.spot) r.to) }
+
+    pub alike-ready : IsReady kn (be W) fi r m w → IsReady kn (be W) fi r n v
+    alike-ready ready =
+        let h = subst (λ p. IsReady kn (be W) fi p m w) (is-with s r of) ready in
+        subst (λ p. IsReady kn (be W) fi p n v) (sym (is-with s r of)) (record {
+          fit = fit W (with_snap s r).known (with_snap s r).below n v (is.pin, is.readable);
+          shares = shares W;
+          writes = h.writes;
+          reads = alike-reads h.writes h.reads;
+          ahead = λ x _. tt;
+          place = h.place;
+        })
+
+    pub alike-seen : (t : Stream) → Sees kn (be W) fi r m w t → Sees kn (be W) fi r n v t
+    alike-seen t seen =
+        let h = subst (λ p. Sees kn (be W) fi p m w t) (is-with s r of) seen in
+        let x = h.says in
+        subst (λ p. Sees kn (be W) fi p n v t) (sym (is-with s r of)) (record {
+          writes = h.writes;
+          reads = alike-reads h.writes h.reads;
+          says = record {
+            rest = x.rest;
+            tomb = x.tomb;
+            left = x.left;
+            reads = x.reads;
+            pt = λ at a. x.pt at (head-was at a);
+            static_row = x.static_row;
+            below = inl (all-known known s changes n is (stand r.spot) r.to);
           };
         })

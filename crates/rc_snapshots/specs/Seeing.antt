@@ -5,6 +5,8 @@
 --     NothingIsLost     so does each that was there, of a cache's chain too
 --     AllStillSee       so does each of a memtable's chain; others are there still
 --     StillSeeBoth      so do those that there are of two
+--     SeesSameChanges   a snapshot sees what each changes say of which it saw that
+--     SeeSameChanges    so do those that there are of two
 --     SeesAllOf         a snapshot sees what changes say; where there is none, there are none
 use Rattle.std.specs.Prelude.{◌≡◌, List, [], Option, Some, None, IfSome}
 use Rattle.rc_mutation.specs.declared.mutations.Mutation.{Mutation}
@@ -53,6 +55,15 @@ pub record AreSameSnapshots (old new : Memory) : Type 0 where
 pub record StillSeeBoth (snaps : Snaps) (old new : Memory) : Type 0 where
   pub sealed : IfSome snaps.sealed (λ s. StillSees s old new)
   pub active : IfSome snaps.active (λ s. StillSees s old new)
+
+-- a snapshot sees what each changes say of which it saw that, whatever versions say so
+abbrev pub SeesSameChanges : Snap → Memory → Memory → Type 0
+SeesSameChanges s old new = (changes : List Mutation) → SeesChanges changes old s → SeesChanges changes new s
+
+-- so do those that there are of two
+pub record SeeSameChanges (snaps : Snaps) (old new : Memory) : Type 0 where
+  pub sealed : IfSome snaps.sealed (λ s. SeesSameChanges s old new)
+  pub active : IfSome snaps.active (λ s. SeesSameChanges s old new)
 
 -- a snapshot sees what these changes say; where there is none, there are none
 abbrev pub SeesAllOf : List Mutation → Memory → Option Snap → Type 0

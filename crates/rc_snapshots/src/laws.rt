@@ -1,5 +1,5 @@
 //! The laws of the streams of snapshots, each the contract of a function that does nothing.
-ghost use Rattle.std.specs.Prelude.{◌≡◌, [], ◌∷◌, ℕ, Bool, List, None, true};
+ghost use Rattle.std.specs.Prelude.{◌≡◌, [], ◌∷◌, ℕ, Bool, IfSome, List, None, Option, true};
 ghost use Rattle.rc_schema.specs.SchemaValue.{SchemaValue};
 ghost use Rattle.rc_writes.specs.Allowed.{ChangeFits};
 ghost use Rattle.rc_mutation.specs.declared.mutations.Mutation.{Mutation};
@@ -18,7 +18,7 @@ ghost use Rattle.rc_cacheread.specs.Reading.{Reads};
 ghost use Rattle.rc_snapshots.specs.declared.fillers.NoFiller.{NoFiller as Filler};
 ghost use Rattle.rc_snapshots.specs.Streams.{IsNewStream, IsOf, SeesChanges, first_position};
 ghost use Rattle.rc_snapshots.specs.declared.snaps.Snaps.{Snaps};
-ghost use Rattle.rc_snapshots.specs.Seeing.{AllStillSee, AreSameSnapshots, AreThere, HasSnap, NothingIsLost, SeesAllOf, StillSeeBoth, StillSees};
+ghost use Rattle.rc_snapshots.specs.Seeing.{AllStillSee, AreSameSnapshots, AreThere, HasSnap, NothingIsLost, SeeSameChanges, SeesAllOf, SeesSameChanges, StillSeeBoth, StillSees};
 
 use crate::fillers::NoFiller;
 use rc_cacheread::CacheReader;
@@ -60,15 +60,21 @@ pub fn a_snapshots_stream_changes_nothing<const S: usize, W: Store>()
     ensures quiet { (asks : W → ℕ) → IsQuiet ⟦<CacheReader<SnapshotReader, ListFrags, NoFiller> as Frags<Chains<S>, W>>⟧.did (λ _. true) asks }
 {}
 
-/// Where a snapshot is there still, and sees what it saw, its stream is ready as before, and stands for what it stood for, over any store.
+/// Where a snapshot is there still, and sees what it saw, its stream is ready as before, and stands for what it stood for, over any store; so it is where the snapshot sees what the same changes say, whatever versions say so.
 pub fn a_snapshots_stream_stays<const S: usize, W: Store>()
     ensures ready { (s : Snapshot) (r : Reader Known Stream Filler) (m n : Memory) (w v : W) → IsOf s r → HasPin n s.chain s.pin → versions_seen n s ≡ versions_seen m s → kind_seen n s ≡ kind_seen m s →
         ⟦<CacheReader<SnapshotReader, ListFrags, NoFiller> as Frags<Chains<S>, W>>⟧.ready r m w → ⟦<CacheReader<SnapshotReader, ListFrags, NoFiller> as Frags<Chains<S>, W>>⟧.ready r n v }
     ensures seen { (s : Snapshot) (r : Reader Known Stream Filler) (m n : Memory) (w v : W) (t : Stream) → IsOf s r → versions_seen n s ≡ versions_seen m s → kind_seen n s ≡ kind_seen m s →
         ⟦<CacheReader<SnapshotReader, ListFrags, NoFiller> as Frags<Chains<S>, W>>⟧.seen r m w t → ⟦<CacheReader<SnapshotReader, ListFrags, NoFiller> as Frags<Chains<S>, W>>⟧.seen r n v t }
-{}
+    ensures ready_alike { (s : Snapshot) (r : Reader Known Stream Filler) (changes : List Mutation) (m n : Memory) (w v : W) → IsOf s r → SeesChanges changes m s → SeesChanges changes n s →
+        ⟦<CacheReader<SnapshotReader, ListFrags, NoFiller> as Frags<Chains<S>, W>>⟧.ready r m w → ⟦<CacheReader<SnapshotReader, ListFrags, NoFiller> as Frags<Chains<S>, W>>⟧.ready r n v }
+    ensures seen_alike { (s : Snapshot) (r : Reader Known Stream Filler) (changes : List Mutation) (m n : Memory) (w v : W) (t : Stream) → IsOf s r → SeesChanges changes m s → SeesChanges changes n s →
+        ⟦<CacheReader<SnapshotReader, ListFrags, NoFiller> as Frags<Chains<S>, W>>⟧.seen r m w t → ⟦<CacheReader<SnapshotReader, ListFrags, NoFiller> as Frags<Chains<S>, W>>⟧.seen r n v t }
+{
+    a_memtable_is_known_everywhere();
+}
 
-/// What snapshots see stays over several calls, of memtables' chains and, where nothing is lost, of caches' chains too; and what a snapshot sees it sees still where it sees what it saw. A snapshot that sees what changes say is there.
+/// What snapshots see stays over several calls, of memtables' chains and, where nothing is lost, of caches' chains too; and what a snapshot sees it sees still where it sees what it saw. A snapshot that sees what changes say is there. One that sees what it saw sees what the same changes say.
 pub fn a_snapshot_sees_what_it_saw()
     ensures along { (old mid new : Memory) → AllStillSee old mid → AllStillSee mid new → AllStillSee old new }
     ensures lossless { (old mid new : Memory) → NothingIsLost old mid → NothingIsLost mid new → NothingIsLost old new }
@@ -79,4 +85,8 @@ pub fn a_snapshot_sees_what_it_saw()
     ensures both { (old new : Memory) (snaps : Snaps) → AllStillSee old new → AreThere old snaps → StillSeeBoth snaps old new }
     ensures remain { (old new : Memory) (snaps : Snaps) → AreThere old snaps → StillSeeBoth snaps old new → AreThere new snaps }
     ensures known { (writes later : List Mutation) (m : Memory) (snaps : Snaps) → SeesAllOf writes m snaps.sealed → SeesAllOf later m snaps.active → AreThere m snaps }
+    ensures changes { (old new : Memory) (s : Snapshot) → StillSees s old new → SeesSameChanges s old new }
+    ensures both_changes { (old new : Memory) (snaps : Snaps) → StillSeeBoth snaps old new → SeeSameChanges snaps old new }
+    ensures each_changes { (old new : Memory) (snaps : Snaps) → ((s : Snapshot) → SeesSameChanges s old new) → SeeSameChanges snaps old new }
+    ensures all_changes { (changes : List Mutation) (old new : Memory) (o : Option Snapshot) → IfSome o (λ s. SeesSameChanges s old new) → SeesAllOf changes old o → SeesAllOf changes new o }
 {}

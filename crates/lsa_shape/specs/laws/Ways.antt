@@ -2,7 +2,7 @@
 use Rattle.std.specs.Prelude.{◌≡◌, ◌⊎◌, List, [], ◌∷◌}
 use Rattle.lsa_path.specs.Ref.{Ref}
 use Rattle.lsa_shape.specs.Shapes.{IsIn}
-use Rattle.lsa_shape.specs.Ways.{Fork}
+use Rattle.lsa_shape.specs.Ways.{ForkAt, Fork}
 
 -- the object is one of those around the place
 abbrev pub IsAround : Ref → List Fork → Type 0

@@ -7,7 +7,7 @@ use Rattle.rc_chain.specs.declared.chains.Snap.{Snap}
 use Rattle.rc_cached.specs.Leaving.{LeavesChains}
 use Rattle.rc_cached.specs.Streams.{OfCache}
 use Rattle.rc_paging.specs.declared.layers.HeldSnaps.{HeldSnaps}
-use Rattle.rc_paging.specs.Layers.{AreLayersOf, IsCacheLayerOf, OfLayers, cached_in}
+use Rattle.rc_paging.specs.calls.Layers.{AreLayersOf, IsCacheLayerOf, OfLayers, cached_in}
 use Rattle.rc_paging.specs.Pages.{IsKnownWhole}
 use Rattle.rc_paging.specs.calls.Words.{IsReadIn, IsReaderIn}
 

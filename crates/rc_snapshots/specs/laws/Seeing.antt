@@ -8,7 +8,7 @@ use Rattle.rc_core.specs.StandsFor.{StandsFor}
 use Rattle.rc_cursor.specs.Memory.{Memory}
 use Rattle.rc_cursor.specs.Snap.{Snap}
 use Rattle.rc_cursor.specs.Snapshots.{AreReadable, kind_seen, versions_seen}
-use Rattle.rc_snapshots.specs.Seeing.{AllStillSee, AreSameSnapshots, AreThere, HasSnap, NothingIsLost, SeesAllOf, StillSees, StillSeeBoth}
+use Rattle.rc_snapshots.specs.Seeing.{AllStillSee, AreSameSnapshots, AreThere, HasSnap, NothingIsLost, SeeSameChanges, SeesAllOf, SeesSameChanges, StillSees, StillSeeBoth}
 use Rattle.rc_snapshots.specs.Streams.{SeesChanges}
 use Rattle.rc_snapshots.specs.declared.snaps.Snaps.{Snaps}
 
@@ -65,3 +65,27 @@ both-still m n snaps f h = record { sealed = some-still m n snaps.sealed f h.sea
 
 pub both-there : (writes later : List Mutation) (m : Memory) (snaps : Snaps) → SeesAllOf writes m snaps.sealed → SeesAllOf later m snaps.active → AreThere m snaps
 both-there writes later m snaps h k = record { sealed = some-seen writes m snaps.sealed h; active = some-seen later m snaps.active k }
+
+-- ---- what changes say
+
+-- a snapshot that sees what it saw sees what the same changes say
+pub same-changes : (m n : Memory) (s : Snap) → StillSees s m n → SeesSameChanges s m n
+same-changes m n s a = λ changes h. sees-then changes m n s h a
+
+some-same : (m n : Memory) (o : Option Snap) → IfSome o (λ s. StillSees s m n) → IfSome o (λ s. SeesSameChanges s m n)
+some-same m n None a = tt
+some-same m n (Some s) a = same-changes m n s a
+
+pub both-same : (m n : Memory) (snaps : Snaps) → StillSeeBoth snaps m n → SeeSameChanges snaps m n
+both-same m n snaps a = record { sealed = some-same m n snaps.sealed a.sealed; active = some-same m n snaps.active a.active }
+
+some-each : (m n : Memory) (o : Option Snap) → ((s : Snap) → SeesSameChanges s m n) → IfSome o (λ s. SeesSameChanges s m n)
+some-each m n None f = tt
+some-each m n (Some s) f = f s
+
+pub both-each : (m n : Memory) (snaps : Snaps) → ((s : Snap) → SeesSameChanges s m n) → SeeSameChanges snaps m n
+both-each m n snaps f = record { sealed = some-each m n snaps.sealed f; active = some-each m n snaps.active f }
+
+pub all-same : (changes : List Mutation) (m n : Memory) (o : Option Snap) → IfSome o (λ s. SeesSameChanges s m n) → SeesAllOf changes m o → SeesAllOf changes n o
+all-same changes m n None f h = h
+all-same changes m n (Some s) f h = f changes h

@@ -24,9 +24,8 @@ use Rattle.rc_stream.specs.Places.{Reaches}
 use Rattle.rc_position.specs.Position.{pos_cmp}
 use Rattle.rc_stream.specs.Stream.{force, is_passed, is_upto, onward, opening, rest}
 use Rattle.rc_stream.specs.Merging.{IsOrdered, changes_nothing, place_of}
-use Rattle.rc_stream.specs.calls.Merging.{together}
-use Rattle.rc_stream.specs.calls.Merging.{beside}
-use Rattle.rc_stream.specs.Holding.{held_fragments, IsFrom, StandsOver, nearer, later}
+use Rattle.rc_stream.specs.calls.Merging.{beside, together}
+use Rattle.rc_stream.specs.Holding.{held_fragments, IsFrom, StandsOver}
 use Rattle.std.specs.FinMap.Entries.{by_order}
 
 -- which of two places is the smaller, where there are any

@@ -7,3 +7,6 @@ returns-clause-none c = leaves_same
 
 pub returns-clause-along : goal.returns-clause-along
 returns-clause-along c = leaves_then
+
+pub returns-clause-see : goal.returns-clause-see
+returns-clause-see c = λ old new s leaves changes sees. c.a_snapshot_sees_what_it_saw.ensures.sees changes old new s sees (leaves.memtables s (record { pin = sees.pin; kind = sees.kind }))

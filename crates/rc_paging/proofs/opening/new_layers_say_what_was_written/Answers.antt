@@ -4,7 +4,7 @@ use Rattle.rc_mutation.specs.Fragments.{fragments}
 use Rattle.rc_stream.specs.Merging.{IsOrdered, merged_stream}
 use Rattle.rc_stream.specs.Stream.{Stream, stream_of}
 use Rattle.rc_reader.specs.Left.{slice_lines}
-use Rattle.rc_paging.specs.Layers.{IsCacheLayerOf, IsMemtableLayerOf, OfLayers, active_in, cached_in, sealed_in}
+use Rattle.rc_paging.specs.calls.Layers.{IsCacheLayerOf, IsMemtableLayerOf, OfLayers, active_in, cached_in, sealed_in}
 use Rattle.rc_paging.specs.calls.Standing.{OfMemtables}
 use Rattle.rc_paging.specs.calls.Words.{IsReaderIn}
 use Rattle.rc_paging.proofs.Fresh.{cache_of, cache_ready, cache_seen, leaves_once, memtable_of, memtable_ready, memtable_seen, reader_of, still_in}

@@ -10,15 +10,20 @@ use Rattle.rc_paging.proofs.paging.behind_passed.Goals as goal
 pub returns-in-Ok-clause-gives : goal.returns-in-Ok-clause-gives
 returns-in-Ok-clause-gives g c = λ lines left.
     let r = c.read.ensures.left lines left in
-    c.read-gave.ensures.gives (drop c.args.passed lines) (record { stream = r.stream; stands = r.stands; are = ap (λ result. left_after result c.args.passed lines) (sym c.in-Ok.is) ∙ r.are })
+    c.with_behind-gave.ensures.gives (drop c.args.passed lines) (record { stream = r.stream; stands = r.stands; are = ap (λ result. left_after result c.args.passed lines) (sym c.in-Ok.is) ∙ r.are })
 
 pub returns-in-Ok-clause-more : goal.returns-in-Ok-clause-more
 returns-in-Ok-clause-more g c = λ lines left.
     let r = c.read.ensures.left lines left in
-    c.read-gave.ensures.more (drop c.args.passed lines) (record { stream = r.stream; stands = r.stands; are = ap (λ result. left_after result c.args.passed lines) (sym c.in-Ok.is) ∙ r.are })
+    c.with_behind-gave.ensures.more (drop c.args.passed lines) (record { stream = r.stream; stands = r.stands; are = ap (λ result. left_after result c.args.passed lines) (sym c.in-Ok.is) ∙ r.are })
+
+pub returns-in-Ok-clause-behind : goal.returns-in-Ok-clause-behind
+returns-in-Ok-clause-behind g c = λ lines left.
+    let r = c.read.ensures.left lines left in
+    c.with_behind-gave.ensures.behind (drop c.args.passed lines) (record { stream = r.stream; stands = r.stands; are = ap (λ result. left_after result c.args.passed lines) (sym c.in-Ok.is) ∙ r.are })
 
 pub returns-in-Ok-clause-ready : goal.returns-in-Ok-clause-ready
-returns-in-Ok-clause-ready g c = c.the_same_is_ready.ensures c.read-gave.new.self.stream c.into_stream.result c.read-gave.new.home c.read-gave.new.store c.into_stream.ensures c.read-gave.ensures.may
+returns-in-Ok-clause-ready g c = c.the_same_is_ready.ensures c.with_behind-gave.new.reader.stream c.into_stream.result c.with_behind-gave.new.chains c.with_behind-gave.new.readings c.into_stream.ensures c.with_behind-gave.ensures.may
 
 pub returns-in-Err-clause-ready : goal.returns-in-Err-clause-ready
 returns-in-Err-clause-ready g c = c.the_same_is_ready.ensures c.read.new.self.stream c.into_stream-in-Err.result c.read.new.home c.read.new.store c.into_stream-in-Err.ensures c.read.ensures.may
@@ -27,13 +32,11 @@ pub returns-in-Ok-clause-kept : goal.returns-in-Ok-clause-kept
 returns-in-Ok-clause-kept g c =
     let laws : CallLaws g.row.S = record { leaves = c.a_cached_stream_leaves_what_others_see.ensures.did; handed = c.a_cached_stream_misses_only_what_is_not_known.ensures.handed; known = c.a_cached_stream_misses_only_what_is_not_known.ensures.known } in
     let x = c.args.reader.work.to in
-    let y = c.read.new.self.work.to in
     let s : Three = (c.args.reader.stream, c.args.chains.now, c.args.readings.now) in
     let t : Three = (c.read.new.self.stream, c.read.new.home, c.read.new.store) in
-    let u : Three = (c.read-gave.new.self.stream, c.read-gave.new.home, c.read-gave.new.store) in
+    let u : Three = (c.with_behind-gave.new.reader.stream, c.with_behind-gave.new.chains, c.with_behind-gave.new.readings) in
     let one = called g.row.S laws x (has_answer c.read.result) s t (c.read.ensures.did x (inl (passes-itself x))) in
-    let two = called g.row.S laws y (has_answer c.read-gave.result) t u (c.read-gave.ensures.did y (inl (passes-itself y))) in
-    subst (λ z. KeptLayers g.row.S s (z, c.read-gave.new.home, c.read-gave.new.store)) (sym c.into_stream.ensures) (kept_then g.row.S s t u one two)
+    subst (λ z. KeptLayers g.row.S s (z, c.with_behind-gave.new.chains, c.with_behind-gave.new.readings)) (sym c.into_stream.ensures) (kept_then g.row.S s t u one c.with_behind-gave.ensures.kept)
 
 pub returns-in-Err-clause-kept : goal.returns-in-Err-clause-kept
 returns-in-Err-clause-kept g c =

@@ -11,6 +11,9 @@ returns-in-Ok-clause-gives g c = λ s seen. c.behind_passed.ensures.gives (slice
 pub returns-in-Ok-clause-more : goal.returns-in-Ok-clause-more
 returns-in-Ok-clause-more g c = λ s seen. c.behind_passed.ensures.more (slice_lines c.args.slice.now s) (c.in-Ok.ensures.left s seen)
 
+pub returns-in-Ok-clause-behind : goal.returns-in-Ok-clause-behind
+returns-in-Ok-clause-behind g c = λ s seen. c.behind_passed.ensures.behind (slice_lines c.args.slice.now s) (c.in-Ok.ensures.left s seen)
+
 pub returns-in-Ok-clause-kept : goal.returns-in-Ok-clause-kept
 returns-in-Ok-clause-kept g c =
     let laws : CallLaws g.row.S = record { leaves = c.a_cached_stream_leaves_what_others_see.ensures.did; handed = c.a_cached_stream_misses_only_what_is_not_known.ensures.handed; known = c.a_cached_stream_misses_only_what_is_not_known.ensures.known } in

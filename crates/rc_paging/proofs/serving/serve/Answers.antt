@@ -4,8 +4,9 @@ use Rattle.std.specs.Prelude.{◌≡◌, nat_lt, IfOk}
 use Rattle.rc_reader.specs.Left.{slice_lines}
 use Rattle.rc_cached.specs.declared.readings.Readings.{Readings}
 use Rattle.rc_cached.specs.Streams.{SayBelow}
-use Rattle.rc_paging.specs.Layers.{cached_in}
-use Rattle.rc_paging.specs.Pages.{IsKnownWhole, why}
+use Rattle.rc_paging.specs.calls.Layers.{cached_in}
+use Rattle.rc_paging.specs.Pages.{IsKnownWhole}
+use Rattle.rc_paging.specs.calls.Pages.{why}
 use Rattle.rc_paging.specs.calls.Keeping.{Three}
 use Rattle.rc_paging.specs.calls.Words.{IsReadIn}
 use Rattle.rc_paging.proofs.Called.{kept_then}
@@ -36,6 +37,13 @@ returns-in-Ok-clause-more g c = λ schema below writes later tables fits more st
     let e = c.page-layers.ensures.more seen.0 seen.1 in
     let f = subst (λ r. IfOk r (λ gave. gave.1 ≡ nat_lt c.args.count (length (drop c.given_before-passed.result (slice_lines c.args.remainder.now.slice seen.0))))) c.in-Ok.is e in
     f ∙ (λ i. nat_lt c.args.count (length (drop (c.given_before-passed.ensures i) (seen.2 c.args.remainder.now.slice i))))
+
+pub returns-in-Ok-clause-behind : goal.returns-in-Ok-clause-behind
+returns-in-Ok-clause-behind g c = λ schema below writes later tables fits more stand say.
+    let seen = c.new_layers_say_what_was_written.ensures.seen schema below writes later c.args.held c.args.chains.now c.readings-readings.result c.layers-layers.result tables fits more stand (subst (SayBelow below) (sym c.readings-readings.ensures) say) c.layers-layers.ensures in
+    let e = c.page-layers.ensures.behind seen.0 seen.1 in
+    let f = subst (λ r. IfOk r (λ gave. gave.2 ≡ take 1 (drop c.args.count (drop c.given_before-passed.result (slice_lines c.args.remainder.now.slice seen.0))))) c.in-Ok.is e in
+    f ∙ (λ i. take 1 (drop c.args.count (drop (c.given_before-passed.ensures i) (seen.2 c.args.remainder.now.slice i))))
 
 pub returns-in-Ok-clause-held : goal.returns-in-Ok-clause-held
 returns-in-Ok-clause-held g c = c.given_back-held.ensures ∙ own_held c.args.held c.filled_ahead-layers.result (c.filled_ahead-layers.ensures.kept.layers c.args.held (c.page-layers.ensures.kept.layers c.args.held (c.new_layers_say_what_was_written.ensures.layers c.args.held c.layers-layers.result c.layers-layers.ensures)))

@@ -1,4 +1,4 @@
-use Rattle.rc_snapshots.specs.laws.Seeing.{all-see, both-still, both-there, lost-then, same-then, sees-then, seen-then, snap-then, there-then}
+use Rattle.rc_snapshots.specs.laws.Seeing.{all-same, all-see, both-each, both-same, both-still, both-there, lost-then, same-changes, same-then, sees-then, seen-then, snap-then, there-then}
 use Rattle.rc_snapshots.proofs.laws.a_snapshot_sees_what_it_saw.Goals as goal
 
 pub returns : goal.returns
@@ -12,4 +12,8 @@ returns c = record {
   both = both-still;
   remain = there-then;
   known = both-there;
+  changes = same-changes;
+  both_changes = both-same;
+  each_changes = both-each;
+  all_changes = all-same;
 }

@@ -1,7 +1,7 @@
 -- The lines of the stream that is opened are the answer; what is given back are the snapshots.
 use Rattle.std.proofs.Common.{true, false, sym, ◌∙◌}
-use Rattle.rc_opened.specs.Opened.{no_files}
-use Rattle.rc_opened.proofs.Called.{Three, gives-at, opened, own_snaps, own_streams, same_snaps, same_streams}
+use Rattle.rc_opened.specs.Opened.{no_files, snaps_in}
+use Rattle.rc_opened.proofs.Called.{Three, gives-at, opened, own_snaps, own_streams, same_snaps, same_streams, still-see}
 use Rattle.rc_opened.proofs.opened.Opened.open.Goals as goal
 
 pub open-requires-clause-ready : goal.open-requires-clause-ready
@@ -22,6 +22,8 @@ returns-in-Ok-open-clause-gives g c = λ schema tabled said writes later m is j 
     gives-at _ _ _ _ _ c.open.new.store kept.2 c.in-Ok-open.ensures.may
     (record { stream = left.stream; stands = left.stands; are = sym (seen.2 c.args.slice.now) ∙ left.are })
     (same_streams s t kept (own_streams c.args.snaps c.sources-stream.result are))
+    (still-see c.args.chains.now c.open.new.home c.args.snaps (snaps_in c.in-Ok-open.reader.stream) kept.1 (same_snaps s t kept (own_streams c.args.snaps c.sources-stream.result are) ∙ own_snaps c.args.snaps c.sources-stream.result are)
+    (record { writes = writes; later = later; sealed = sealed; active = active }))
 
 pub returns-in-Ok-open-clause-snaps : goal.returns-in-Ok-open-clause-snaps
 returns-in-Ok-open-clause-snaps g c =

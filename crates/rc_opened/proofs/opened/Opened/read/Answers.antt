@@ -3,8 +3,8 @@ use Rattle.std.proofs.Common.{inl, sym, ap, ◌∙◌}
 use Rattle.rc_stream.specs.Did.{OfNext, has_answer}
 use Rattle.rc_stream.specs.laws.Ordered.{passes-itself}
 use Rattle.rc_reader.specs.Left.{left_after}
-use Rattle.rc_opened.specs.Opened.{no_files}
-use Rattle.rc_opened.proofs.Called.{Three, called, gives-at, same_snaps, same_streams}
+use Rattle.rc_opened.specs.Opened.{no_files, snaps_in}
+use Rattle.rc_opened.proofs.Called.{Three, called, gives-at, same_snaps, same_streams, still-see}
 use Rattle.rc_opened.proofs.opened.Opened.read.Goals as goal
 
 pub returns-in-Ok-clause-chains : goal.returns-in-Ok-clause-chains
@@ -29,6 +29,7 @@ returns-in-Ok-clause-left g c = λ lines given.
     gives-at _ _ _ _ _ c.read.new.store kept.2 c.read.ensures.may
     (record { stream = r.stream; stands = r.stands; are = ap (λ result. left_after result c.args.count lines) (sym c.in-Ok.is) ∙ r.are })
     (same_streams s t kept given.streams)
+    (still-see c.args.chains.now c.read.new.home (snaps_in s.0) (snaps_in t.0) kept.1 (same_snaps s t kept given.streams) given.see)
 
 pub returns-in-Err-NoMemory-clause-chains : goal.returns-in-Err-NoMemory-clause-chains
 returns-in-Err-NoMemory-clause-chains g c =
@@ -52,3 +53,4 @@ returns-in-Err-NoMemory-clause-left g c = λ lines given.
     gives-at _ _ _ _ _ c.read.new.store kept.2 c.read.ensures.may
     (record { stream = r.stream; stands = r.stands; are = ap (λ result. left_after result c.args.count lines) (sym c.in-Err-NoMemory.is) ∙ r.are })
     (same_streams s t kept given.streams)
+    (still-see c.args.chains.now c.read.new.home (snaps_in s.0) (snaps_in t.0) kept.1 (same_snaps s t kept given.streams) given.see)

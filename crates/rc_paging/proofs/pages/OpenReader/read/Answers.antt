@@ -3,7 +3,9 @@ use Rattle.std.proofs.Common.{◌≡◌, ◌++◌, arith, refl, length, take, dr
 use Rattle.std.specs.Prelude.{IfOk, nat_lt}
 use Rattle.rc_query.specs.Answer.{answer}
 use Rattle.rc_paging.specs.Pages.{StandFor}
-use Rattle.rc_paging.specs.Remainders.{after_lines, given_before}
+use Rattle.rc_paging.specs.Remainders.{given_before}
+use Rattle.rc_paging.specs.calls.Remainders.{after_lines}
+use Rattle.rc_paging.proofs.OfSlices.{same_of, still_of}
 use Rattle.rc_paging.proofs.Paged.{go_on, same_left}
 use Rattle.rc_paging.proofs.pages.OpenReader.read.Goals as goal
 
@@ -29,9 +31,11 @@ returns-in-Ok-go_behind-clause-left g c = λ below lines l say.
     let stood = subst (λ h. StandFor g.row.S c.args.chains.now h below l.writes l.later) (sym c.take_out-held.ensures.taken) l.stand in
     let stand = subst (λ h. StandFor g.row.S c.serve-gave.new.chains h below l.writes l.later) (sym (c.put_back.ensures ∙ c.serve-gave.ensures.held)) (c.serve-gave.ensures.stand below l.writes l.later stood say) in
     let e = subst (λ r. IfOk r (λ gave. gave.0 ≡ take c.args.count (drop (given_before c.args.self.now.remainder) (answer (below ++ (l.writes ++ l.later)) c.args.self.now.remainder.slice)))) c.in-Ok.is (c.serve-gave.ensures.gives l.schema below l.writes l.later l.of_tables l.of_sealed l.of_active stood say) in
-    go_on g.row.S c.args.chains.now c.serve-gave.new.chains c.args.self.now c.put_back.new.place c.go_behind.new.self below lines c.in-Ok.lines c.args.count l stand
+    let k = subst (λ r. IfOk r (λ gave. gave.2 ≡ take 1 (drop c.args.count (drop (given_before c.args.self.now.remainder) (answer (below ++ (l.writes ++ l.later)) c.args.self.now.remainder.slice))))) c.in-Ok.is (c.serve-gave.ensures.behind l.schema below l.writes l.later l.of_tables l.of_sealed l.of_active stood say) in
+    go_on g.row.S c.args.chains.now c.serve-gave.new.chains c.args.self.now c.put_back.new.place c.go_behind.new.self below lines c.in-Ok.lines c.in-Ok.behind c.args.count l stand
     (c.in-Ok-go_behind.ensures.ok ∙ ap (λ ls. after_lines ls c.args.self.now.remainder) c.as_slice.ensures)
     (e ∙ ap (take c.args.count) (sym l.are))
+    (k ∙ ap (λ ls. take 1 (drop c.args.count ls)) (sym l.are))
 
 pub returns-in-Err-go_behind-clause-left : goal.returns-in-Err-go_behind-clause-left
 returns-in-Err-go_behind-clause-left g c = λ below lines l say.
@@ -44,3 +48,10 @@ returns-in-Err-clause-left g c = λ below lines l say.
     let stood = subst (λ h. StandFor g.row.S c.args.chains.now h below l.writes l.later) (sym c.take_out-held.ensures.taken) l.stand in
     let stand = subst (λ h. StandFor g.row.S c.serve-gave.new.chains h below l.writes l.later) (sym (c.put_back.ensures ∙ c.serve-gave.ensures.held)) (c.serve-gave.ensures.stand below l.writes l.later stood say) in
     same_left g.row.S c.args.chains.now c.serve-gave.new.chains c.args.self.now c.put_back.new.place c.args.self.now.remainder below lines l stand refl
+
+pub returns-in-Ok-go_behind-clause-of : goal.returns-in-Ok-go_behind-clause-of
+returns-in-Ok-go_behind-clause-of g c = λ slice is.
+    still_of slice c.args.self.now.remainder c.go_behind.new.self c.in-Ok.lines (c.in-Ok-go_behind.ensures.ok ∙ ap (λ ls. after_lines ls c.args.self.now.remainder) c.as_slice.ensures) is
+
+pub returns-in-Err-go_behind-clause-of : goal.returns-in-Err-go_behind-clause-of
+returns-in-Err-go_behind-clause-of g c = λ slice is. same_of slice c.args.self.now.remainder c.go_behind.new.self c.in-Err-go_behind.ensures.err is

@@ -1,7 +1,7 @@
--- What an open reader reads.
---     AreLayers       what the reader of snapshots reads, as it is made
---     held_in          the snapshots that are read
---     AreLayersOf     the streams are those of snapshots, wherever they stand
+-- What an open reader reads, as it is made and taken apart again.
+--     AreLayers    what the reader of snapshots reads, as it is made
+--     held_in    the snapshots that are read
+--     AreLayersOf    the streams are those of snapshots, wherever they stand
 use Rattle.std.specs.Prelude.{Option, None, option_map}
 use Rattle.rc_chain.specs.declared.chains.Snap.{Snap}
 use Rattle.rc_stream.specs.declared.merges.Merge.{Merge}
