@@ -1,5 +1,5 @@
 -- What is left to a reader that goes on past the row cache, over what tables say now.
---     place_behind    where it goes on behind the line that a page told of
+--     place_behind_line    where it goes on behind the line that a page told of
 --     slice_past      what is left of its slice then
 --     under_head      what was read, under the partition tombstone that the tables said before
 --     lines_past      the lines that are left to it
@@ -16,15 +16,15 @@ use Rattle.rc_opened.specs.Behind.{lines_behind}
 use Rattle.rc_paging.specs.declared.layers.HeldSnaps.{HeldSnaps}
 
 -- where a reader goes on behind the line that a page told of: right behind its row, where the slice begins behind the static line, and where it ends if there is no line
-abbrev pub place_behind : List OutLine → Slice → Pos
-place_behind [] slice = slice.to
-place_behind (line.Static values ∷ lines) slice = slice.from
-place_behind (line.Row key values ∷ lines) slice = start_bound key false
+abbrev pub place_behind_line : List OutLine → Slice → Pos
+place_behind_line [] slice = slice.to
+place_behind_line (line.Static values ∷ lines) slice = slice.from
+place_behind_line (line.Row key values ∷ lines) slice = start_bound key false
 
 -- what is left of a slice then; all of it, where no page told of a line
 abbrev pub slice_past : Option (List OutLine) → Slice → Slice
 slice_past None slice = slice
-slice_past (Some told) slice = sliced_from slice (place_behind told slice)
+slice_past (Some told) slice = sliced_from slice (place_behind_line told slice)
 
 -- what was read, under the partition tombstone that the tables said before
 abbrev pub under_head : List Mutation → Mutation → Mutation

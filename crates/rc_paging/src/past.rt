@@ -9,7 +9,7 @@ ghost use Rattle.rc_stream.specs.Stream.{stream_of};
 ghost use Rattle.rc_opened.specs.Behind.{AreOver, lines_behind};
 ghost use Rattle.rc_opened.specs.Opened.{AreChangesOf, snaps_of};
 ghost use Rattle.rc_paging.specs.Pages.{LinesAreLeft, StandCached, StandFor};
-ghost use Rattle.rc_paging.specs.Past.{lines_past, place_behind, read_past, slice_past, without_written};
+ghost use Rattle.rc_paging.specs.Past.{lines_past, place_behind_line, read_past, slice_past, without_written};
 
 use crate::layers::{HeldSnaps, put_back, take_out};
 use crate::pages::OpenReader;
@@ -105,8 +105,8 @@ fn copied(alloc: Global, lines: &Option<Lines>) -> Result<Option<Lines>, AllocEr
 }
 
 // Where a reader goes on behind the line that a page told of. The only error is want of memory.
-fn place_behind(alloc: Global, told: &[OutLine], slice: &Slice) -> Result<Pos, AllocError>
-    ensures { IfOk result (λ x. x ≡ place_behind told.now slice.now) }
+fn place_behind_line(alloc: Global, told: &[OutLine], slice: &Slice) -> Result<Pos, AllocError>
+    ensures { IfOk result (λ x. x ≡ place_behind_line told.now slice.now) }
 {
     match told {
         [OutLine::Row(key, _), _rest @ ..] => start_pos(alloc, key, false),
@@ -122,7 +122,7 @@ fn slice_behind(alloc: Global, told: &Option<Lines>, slice: &Slice) -> Result<Sl
     match told {
         None => slice.copy(alloc),
         Some(told) => {
-            let from = place_behind(alloc, told.as_slice(), slice)?;
+            let from = place_behind_line(alloc, told.as_slice(), slice)?;
             let to = slice.to.copy(alloc)?;
             Ok(Slice { from, to })
         }
