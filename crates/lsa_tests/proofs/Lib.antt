@@ -1,4 +1,2 @@
-mod Furnished
 mod Listed
 mod Seated
-mod Walks

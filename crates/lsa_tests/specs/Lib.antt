@@ -1,4 +1,2 @@
-pub mod Furnished
 pub mod Listed
 pub mod Seated
-pub mod Walking

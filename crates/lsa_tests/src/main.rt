@@ -1,4 +1,4 @@
-//! Tests of the crates of the region, of ordered entries and of the registry, each crate's in a module of its own.
+//! Tests of the crates of the region, each crate's in a module of its own.
 #![tactic(auto)]
 
 #[cfg(test)]
@@ -10,17 +10,11 @@ mod pool;
 #[cfg(test)]
 mod region;
 #[cfg(test)]
-mod registry;
-#[cfg(test)]
 mod room;
-#[cfg(test)]
-mod rooms;
 #[cfg(test)]
 mod segments;
 #[cfg(test)]
 mod store;
-#[cfg(test)]
-mod tree;
 #[cfg(test)]
 mod yards;
 

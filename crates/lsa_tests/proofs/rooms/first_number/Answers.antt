@@ -1,4 +1,0 @@
-use Rattle.lsa_tests.proofs.rooms.first_number.Goals as goal
-
-pub number_under-requires : goal.number_under-requires
-number_under-requires c = c.top_of.ensures c.in-Some.top c.in-Some.is

@@ -1,0 +1,2 @@
+mod Furnished
+mod Walks

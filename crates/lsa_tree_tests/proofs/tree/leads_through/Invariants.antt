@@ -1,0 +1,5 @@
+use Rattle.lsa_tree_tests.specs.Walking.{IsTreeEntry}
+use Rattle.lsa_tree_tests.proofs.tree.leads_through.Given as goal
+
+abbrev pub invariant-loop-number : goal.invariant-loop-number
+invariant-loop-number l = IsTreeEntry l.tree l.region l.found

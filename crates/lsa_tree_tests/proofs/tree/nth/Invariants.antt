@@ -1,0 +1,5 @@
+use Rattle.lsa_tree_tests.specs.Walking.{IsTreeEntry}
+use Rattle.lsa_tree_tests.proofs.tree.nth.Given as goal
+
+abbrev pub invariant-loop-step : goal.invariant-loop-step
+invariant-loop-step l = IsTreeEntry l.tree l.region l.found

@@ -1,0 +1,2 @@
+pub mod Furnished
+pub mod Walking
