@@ -1,4 +1,4 @@
--- Which object the recency list has at a place.
+-- Which object a link names.
 use Rattle.std.specs.Prelude.{Option, Some, None}
 use Rattle.lsa_region.specs.Ref.{Ref}
 use Rattle.lsa_region.specs.declared.end.End.{End}

@@ -1,4 +1,4 @@
--- What writes say at one place, as inner functions compare it.
+-- Whether versions agree with writes at one position, as inner functions compare it.
 --     IsPlaceSaid    what is known at a position is what writes say there
 use Rattle.std.specs.Prelude.{List}
 use Rattle.rc_position.specs.declared.positions.Pos.{Pos}

@@ -1,5 +1,4 @@
 -- What a snapshot knows of a partition, whole.
---     IsSnapKnown    so it is to a snapshot
 use Rattle.rc_memory.specs.Memory.{Memory}
 use Rattle.rc_chain.specs.declared.chains.Snap.{Snap}
 use Rattle.rc_cursor.specs.Snapshots.{kind_seen, versions_seen}
