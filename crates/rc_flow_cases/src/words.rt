@@ -3,7 +3,7 @@
 
 use rc_cell::{Cells, Row, Tomb};
 use rc_mutation::{Mutation, Partition};
-use rc_position::{Comp, Key, PartKey, Pos, Weight};
+use rc_position::{Comp, Key, LONGEST_PARTITION_KEY, PartKey, Pos, Weight};
 use std::alloc::{AllocError, Global};
 
 /// The deletion time of every tombstone here.
@@ -20,7 +20,7 @@ fn position(alloc: Global, number: i64, weight: Weight) -> Result<Pos, AllocErro
 // The partition key of a word.
 fn key_of(alloc: Global, word: &str) -> Result<Option<PartKey>, AllocError> {
     let bytes = word.as_bytes();
-    if bytes.is_empty() || bytes.len() > 64 {
+    if bytes.is_empty() || bytes.len() > LONGEST_PARTITION_KEY {
         return Ok(None);
     }
     Ok(Some(PartKey::from_slice(alloc, bytes)?))

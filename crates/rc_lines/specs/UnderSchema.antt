@@ -11,7 +11,7 @@ use Rattle.rc_position.specs.declared.comps.Comp.{Comp}
 use Rattle.rc_position.specs.declared.comps.Comp.TheVariants as comps
 use Rattle.rc_position.specs.declared.positions.Pos.{Pos}
 use Rattle.rc_position.specs.declared.slices.Slice.{Slice}
-use Rattle.rc_position.specs.Position.{pos_cmp, start_bound, end_bound}
+use Rattle.rc_position.specs.Position.{pos_cmp, start_bound, end_bound, longest_partition_key}
 use Rattle.rc_ranges.specs.declared.pieces.Piece.{Piece}
 use Rattle.rc_schema.specs.declared.kinds.CkKind.{CkKind}
 use Rattle.rc_schema.specs.declared.kinds.CkKind.TheVariants.{Int, Text}
@@ -50,7 +50,7 @@ columns_of names cells =
 
 -- whether a partition key has 1 to 64 bytes
 abbrev pub is_partition_key : List ℕ → Bool
-is_partition_key key = nat_le 1 (length key) && nat_le (length key) 64
+is_partition_key key = nat_le 1 (length key) && nat_le (length key) longest_partition_key
 
 -- what a line says: under a schema its command, or why it is refused there
 abbrev pub Saying : Type 0

@@ -15,7 +15,7 @@ use crate::keys::{full_key, slice};
 use crate::shapes::{Bound, Change, Named, Pieces, Shape};
 use rc_cell::{Row, Tomb};
 use rc_mutation::{Mutation, Rows, Statics, Write};
-use rc_position::{Key, PartKey, Slice, Text};
+use rc_position::{Key, LONGEST_PARTITION_KEY, PartKey, Slice, Text};
 use rc_ranges::{Piece, Ranges};
 use rc_schema::Schema;
 use std::alloc::{AllocError, Global};
@@ -24,7 +24,7 @@ use std::alloc::{AllocError, Global};
 fn part_key(alloc: Global, key: &[u8]) -> Result<Option<PartKey>, AllocError>
     ensures { IfOk result (λ found. found ≡ (if is_partition_key key.now then Some key.now else None)) }
 {
-    if key.is_empty() || key.len() > 64 {
+    if key.is_empty() || key.len() > LONGEST_PARTITION_KEY {
         return Ok(None);
     }
     let key = PartKey::from_slice(alloc, key)?;

@@ -7,6 +7,7 @@
 --     start_bound, end_bound       the bound of a range at a prefix, inclusive or not
 --     IsBeforeRows, IsAfterRows    before, or after, each row whose key begins with a prefix
 --     IsPosOf                      a position of rows with so many components
+--     longest_partition_key, longest_text     how many bytes a partition key has at most, and a text of a clustering key
 use Rattle.std.specs.Prelude.{◌≡◌, ℕ, Bool, true, false, ◌&&◌, List, [], ◌∷◌, ◌++◌, length, ◌≤◌}
 use Rattle.std.specs.declared.cmp.Ordering.{Ordering}
 use Rattle.std.specs.declared.cmp.Ordering.TheVariants.{Less, Equal, Greater}
@@ -17,6 +18,18 @@ use Rattle.rc_position.specs.declared.comps.Comp.TheVariants.{Int, Text}
 use Rattle.rc_position.specs.declared.positions.Weight.{Weight}
 use Rattle.rc_position.specs.declared.positions.Weight.TheVariants.{Before, At, After}
 use Rattle.rc_position.specs.declared.positions.Pos.{Pos}
+
+-- a partition key has at most so many bytes, and at least one
+abbrev pub longest_partition_key : ℕ
+longest_partition_key = 64
+
+-- a partition key
+abbrev pub IsPartKey : List ℕ → Type 0
+IsPartKey key = (1 ≤ length key) × (length key ≤ longest_partition_key)
+
+-- a text of a clustering key has at most so many bytes where it is written or stored
+abbrev pub longest_text : ℕ
+longest_text = 64
 
 -- unsigned byte order; a proper prefix is smaller
 abbrev pub bytes_cmp : List ℕ → List ℕ → Ordering

@@ -14,4 +14,4 @@ pub use keys::Key;
 pub use positions::{Pos, Weight, end_pos, start_pos};
 pub use slices::Slice;
 pub use steps::Steps;
-pub use texts::{PartKey, Text};
+pub use texts::{LONGEST_PARTITION_KEY, LONGEST_TEXT, PartKey, Text, longest_keys_are_named};

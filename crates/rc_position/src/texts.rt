@@ -4,12 +4,24 @@ ghost use Rattle.std.specs.Prelude.{◌≡◌, ◌≤◌, length, IfOk, IsTrue, 
 ghost use Rattle.std.specs.Cmp.{partial_equiv_from_equiv, eq_by_cmp_equiv, partial_order_from_total};
 ghost use Rattle.std.specs.Ordering.{eq_by_cmp, as_partial_cmp};
 ghost use Rattle.std.proofs.Common.{refl};
-ghost use Rattle.rc_position.specs.Position.{bytes_cmp};
+ghost use Rattle.rc_position.specs.Position.{bytes_cmp, longest_partition_key, longest_text};
 ghost use Rattle.rc_position.specs.laws.Orders.{bytes_cmp_total};
 
 use std::alloc::{AllocError, Global};
 use std::cmp::Ordering;
 use std::marker::Model;
+
+/// The most bytes of a partition key, which has at least one.
+pub const LONGEST_PARTITION_KEY: usize = 64;
+
+/// The most bytes of a text of a clustering key that is written or stored.
+pub const LONGEST_TEXT: usize = 64;
+
+/// The constants are the numbers of the definitions.
+pub fn longest_keys_are_named()
+    ensures partition_key { LONGEST_PARTITION_KEY ≡ longest_partition_key }
+    ensures text { LONGEST_TEXT ≡ longest_text }
+{}
 
 /// A text: any bytes.
 #[derive(Debug, Drop)]
@@ -105,20 +117,21 @@ pub struct PartKey {
 }
 
 impl Model for PartKey {
-    ghost use Rattle.std.specs.Prelude.{List, ℕ, ◌≤◌, length};
+    ghost use Rattle.std.specs.Prelude.{List, ℕ};
+    ghost use Rattle.rc_position.specs.Position.{IsPartKey};
 
     ghost Value = { List ℕ };
 
     ghost view = { λ k. k.items.items };
 
-    ghost invariant = { λ k. (1 ≤ length k.items.items) × (length k.items.items ≤ 64) };
+    ghost invariant = { λ k. IsPartKey k.items.items };
 }
 
 impl PartKey {
     /// The partition key of these bytes, of which there are 1 to 64. The only error is want of memory.
     pub fn from_slice(alloc: Global, items: &[u8]) -> Result<Self, AllocError>
         requires not_empty { 1 ≤ length items.now }
-        requires short { length items.now ≤ 64 }
+        requires short { length items.now ≤ longest_partition_key }
         ensures { IfOk result (λ k. k ≡ items.now) }
     {
         Ok(PartKey {
@@ -129,7 +142,7 @@ impl PartKey {
     /// The partition key of these bytes, of which there are 1 to 64, in the memory that holds them.
     pub fn from_vec(items: Vec<u8>) -> Self
         requires not_empty { 1 ≤ length items.items }
-        requires short { length items.items ≤ 64 }
+        requires short { length items.items ≤ longest_partition_key }
         ensures { result ≡ items.items }
     {
         PartKey { items }
@@ -139,7 +152,7 @@ impl PartKey {
     pub fn as_slice(&self) -> &[u8]
         ensures value { result.now ≡ self.now }
         ensures not_empty { 1 ≤ length self.now }
-        ensures short { length self.now ≤ 64 }
+        ensures short { length self.now ≤ longest_partition_key }
     {
         self.items.as_slice()
     }

@@ -15,7 +15,7 @@ use Rattle.rc_cell.specs.Winner.{IsRow}
 use Rattle.rc_position.specs.declared.comps.Comp.{Comp}
 use Rattle.rc_position.specs.declared.comps.Comp.TheVariants.{Int, Text}
 use Rattle.rc_position.specs.declared.positions.Pos.{Pos}
-use Rattle.rc_position.specs.Position.{weight_number}
+use Rattle.rc_position.specs.Position.{weight_number, longest_text}
 
 -- ---- numbers, little-endian: a timestamp in 8 bytes (two's complement), a deletion time in 4, a length in 2
 
@@ -77,9 +77,9 @@ row_code row = optional_code stamp_code row.marker ++ (optional_code tomb_code r
 -- the component keeps the limit on a text's length
 abbrev pub CompFits : Comp → Type 0
 CompFits (Int number) = ⊤
-CompFits (Text bytes) = length bytes ≤ 64
+CompFits (Text bytes) = length bytes ≤ longest_text
 
--- at most 4 components, texts of at most 64 bytes
+-- at most 4 components, each within the limit
 abbrev pub KeyFits : List Comp → Type 0
 KeyFits key = (length key ≤ 4) × All CompFits key
 
@@ -105,7 +105,7 @@ IsTomb t = FitsSigned w64 t.ts × (t.dt < 2 ^ 32)
 -- the component's number is in range, its text within the limit
 abbrev pub IsComp : Comp → Type 0
 IsComp (Int number) = FitsSigned w64 number
-IsComp (Text bytes) = length bytes ≤ 64
+IsComp (Text bytes) = length bytes ≤ longest_text
 
 -- four components at most, each in range
 abbrev pub IsKey : List Comp → Type 0

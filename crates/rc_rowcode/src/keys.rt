@@ -4,14 +4,14 @@ ghost use Rattle.std.specs.Prelude.{◌≡◌, ◌≤◌, ◌<◌, ◌+◌, ◌^
 ghost use Rattle.std.specs.Option.{option_map};
 ghost use Rattle.std.specs.List.{flat_map, AllByRecursion};
 ghost use Rattle.std.specs.Vec.{vec_capacity};
-ghost use Rattle.rc_position.specs.Position.{comp_cmp, weight_number};
+ghost use Rattle.rc_position.specs.Position.{comp_cmp, weight_number, longest_text};
 ghost use Rattle.rc_rowcode.specs.Spelling.{comp_code, key_code, pos_code, CompFits, KeyFits, IsKey, IsPos, ReadsPrefix};
 ghost use Rattle.rc_rowcode.specs.calls.Reading.{parse_text, parse_component, parse_components, parse_key, parse_position};
 ghost use Rattle.rc_rowcode.specs.calls.Views.{seen_comp};
 
 use crate::numbers::{append, append_byte, append_stamp, bytes_at, stamp_at};
 use crate::widths::key_in_range;
-use rc_position::{Comp, Key, Pos, Text, Weight};
+use rc_position::{Comp, Key, LONGEST_TEXT, Pos, Text, Weight};
 use std::alloc::{AllocError, Global};
 use std::cmp::Ordering;
 
@@ -65,7 +65,7 @@ fn text_at(bytes: &[u8]) -> Option<(CompView<'_>, &[u8])>
     match bytes {
         [] => None,
         [count, rest @ ..] => {
-            let (text, rest) = bytes_at(64, *count as usize, rest)?;
+            let (text, rest) = bytes_at(LONGEST_TEXT, *count as usize, rest)?;
             Some((CompView::Text(text), rest))
         }
     }
@@ -144,7 +144,7 @@ fn pos_at(alloc: Global, bytes: &[u8]) -> Result<Option<(Pos, &[u8])>, AllocErro
 }
 
 fn append_text(out: &mut Vec<u8>, bytes: &[u8])
-    requires fits { length bytes.now ≤ 64 }
+    requires fits { length bytes.now ≤ longest_text }
     requires enough { length out.old.items + length (1 ∷ length bytes.now ∷ bytes.now) ≤ vec_capacity out.old }
     ensures items { out.new.items ≡ out.old.items ++ 1 ∷ length bytes.now ∷ bytes.now }
     ensures room { vec_capacity out.old ≤ vec_capacity out.new }

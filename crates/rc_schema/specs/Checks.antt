@@ -5,6 +5,7 @@ use Rattle.rc_cell.specs.declared.writes.Cell.{Cell}
 use Rattle.rc_cell.specs.declared.writes.Cell.TheVariants.{Live, Dead}
 use Rattle.rc_position.specs.declared.comps.Comp.{Comp}
 use Rattle.rc_position.specs.declared.comps.Comp.TheVariants as comps
+use Rattle.rc_position.specs.Position.{longest_text}
 use Rattle.rc_schema.specs.declared.kinds.CkKind.{CkKind}
 use Rattle.rc_schema.specs.declared.kinds.CkKind.TheVariants.{Int, Text}
 use Rattle.rc_schema.specs.declared.checks.SchemaErr.{SchemaErr}
@@ -28,10 +29,10 @@ are_of_kinds [] kinds = true
 are_of_kinds (component ∷ key) [] = false
 are_of_kinds (component ∷ key) (kind ∷ kinds) = is_of_kind component kind && are_of_kinds key kinds
 
--- a text component has at most 64 bytes
+-- a text component is no longer than a text may be
 abbrev pub is_short : Comp → Bool
 is_short (comps.Int number) = true
-is_short (comps.Text bytes) = nat_le (length bytes) 64
+is_short (comps.Text bytes) = nat_le (length bytes) longest_text
 
 -- a value has at most 256 bytes
 abbrev pub has_short_value : Cell → Bool
@@ -42,7 +43,7 @@ has_short_value (Dead ts dt) = true
 abbrev pub fits_kinds : Bool → List CkKind → List Comp → Bool
 fits_kinds full kinds key = are_of_kinds key kinds && (if full then length key == length kinds else true)
 
--- a key of the schema, or where it need not be full a prefix of one, with texts of at most 64 bytes
+-- a key of the schema, or where it need not be full a prefix of one, each component within the limit
 abbrev pub is_key_of : Bool → SchemaValue → List Comp → Bool
 is_key_of full schema key = fits_kinds full schema.ck key && list_all is_short key
 

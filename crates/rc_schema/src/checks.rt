@@ -6,7 +6,7 @@ ghost use Rattle.rc_schema.specs.Checks.{is_of_kind, are_of_kinds, fits_kinds, i
 
 use crate::kinds::CkKind;
 use rc_cell::Cell;
-use rc_position::Comp;
+use rc_position::{Comp, LONGEST_TEXT};
 use thiserror::Error;
 
 /// Why a key or a row does not fit a schema, in the order in which it is tried.
@@ -69,7 +69,7 @@ fn is_short(component: &Comp) -> bool
 {
     match component {
         Comp::Int(_) => true,
-        Comp::Text(bytes) => bytes.as_slice().len() <= 64,
+        Comp::Text(bytes) => bytes.as_slice().len() <= LONGEST_TEXT,
     }
 }
 

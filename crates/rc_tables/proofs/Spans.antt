@@ -3,12 +3,13 @@ use Rattle.std.proofs.Common.{◌≡◌, ℕ, ◌+◌, ◌-◌, ◌≤◌, ◌<�
 use Rattle.std.specs.Prelude.{◌↔◌, IsSomeAnd}
 use Rattle.std.specs.List.{flat_map, AllByRecursion}
 use Rattle.std.proofs.lemmas.List.{drop_at, take_at, length-append}
+use Rattle.rc_position.specs.Position.{IsPartKey}
 use Rattle.rc_outside.specs.Files.{Files, LiesInFile, AreBytesOf}
 use Rattle.rc_rowcode.specs.Spelling.{time_code}
 use Rattle.rc_mutation.specs.declared.mutations.Mutation.{Mutation}
 use Rattle.rc_mutation.specs.declared.mutations.Partition.{Partition}
 use Rattle.rc_tfile.specs.declared.info.PartRef.{PartRef}
-use Rattle.rc_tfile.specs.Items.{item_code, offset_code, IsItem, bytes_code, IsPartKey}
+use Rattle.rc_tfile.specs.Items.{item_code, offset_code, IsItem, bytes_code}
 use Rattle.rc_tfile.specs.Reading.{Starts}
 use Rattle.rc_schema.specs.SchemaValue.{SchemaValue}
 use Rattle.rc_stream.specs.declared.streams.StreamErr.{StreamErr}

@@ -5,9 +5,10 @@ use Rattle.rc_cell.specs.declared.rows.Row.{Row}
 use Rattle.rc_cell.specs.declared.writes.Tomb.{Tomb}
 use Rattle.rc_position.specs.declared.comps.Comp.{Comp}
 use Rattle.rc_position.specs.declared.positions.Pos.{Pos}
+use Rattle.rc_position.specs.Position.{IsPartKey}
 use Rattle.rc_schema.specs.SchemaValue.{SchemaValue}
 use Rattle.rc_rowcode.specs.Spelling.{optional_code, tomb_code, key_code, pos_code, row_code, IsKey, IsPos, IsCodedRow}
-use Rattle.rc_tfile.specs.Items.{Item, HeadItem, PartItem, RowItem, ChangeItem, EndItem, StopItem, EntryItem, BlockItem, TailItem, item_code, IsItem, bytes_code, IsPartKey}
+use Rattle.rc_tfile.specs.Items.{Item, HeadItem, PartItem, RowItem, ChangeItem, EndItem, StopItem, EntryItem, BlockItem, TailItem, item_code, IsItem, bytes_code}
 use Rattle.rc_tfile.specs.Before.{ItemsBefore, Start, Between, Inside, Behind, item_place, tomb_in_force}
 use Rattle.rc_tfile.specs.Blocks.{items_due}
 use Rattle.rc_tfile.specs.TableText.{ItemFits}

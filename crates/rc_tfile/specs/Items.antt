@@ -5,6 +5,7 @@ use Rattle.rc_cell.specs.declared.rows.Row.{Row}
 use Rattle.rc_cell.specs.declared.writes.Tomb.{Tomb}
 use Rattle.rc_position.specs.declared.comps.Comp.{Comp}
 use Rattle.rc_position.specs.declared.positions.Pos.{Pos}
+use Rattle.rc_position.specs.Position.{IsPartKey}
 use Rattle.rc_schema.specs.SchemaValue.{SchemaValue, is_schema}
 use Rattle.rc_schema.specs.SchemaText.{schema_text}
 use Rattle.rc_rowcode.specs.Spelling.{length_code, time_code, optional_code, tomb_code, key_code, pos_code, row_code, IsTomb, IsKey, IsPos, IsCodedRow}
@@ -43,10 +44,6 @@ item_code StopItem = 5 ∷ []
 item_code (EntryItem key off blocks) = 6 ∷ (bytes_code key ++ (offset_code off ++ time_code blocks))
 item_code (BlockItem b) = 7 ∷ (offset_code b.off ++ (time_code b.len ++ (optional_code tomb_code b.tomb ++ pos_code b.first)))
 item_code (TailItem off parts) = offset_code off ++ (time_code parts ++ codes "RCTE")
-
--- a partition key has 1 to 64 bytes
-abbrev pub IsPartKey : List ℕ → Type 0
-IsPartKey key = (1 ≤ length key) × (length key ≤ 64)
 
 -- the items that spellings stand for: each value is within its limits, each number within its width (the values that the directory's items have
 -- besides come from the partitions)

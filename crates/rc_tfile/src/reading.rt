@@ -2,16 +2,17 @@
 
 ghost use Rattle.std.specs.Prelude.{◌≡◌, ◌≤◌, ◌∷◌, ◌++◌, ℕ, List, IfOk, IfSome, MatchOption, length};
 ghost use Rattle.std.specs.Option.{option_map};
+ghost use Rattle.rc_position.specs.Position.{IsPartKey};
 ghost use Rattle.rc_rowcode.specs.calls.Reading.{parse_length};
 ghost use Rattle.rc_rowcode.specs.Spelling.{optional_code, tomb_code, key_code, pos_code, row_code, IsTomb, IsKey, IsPos, IsCodedRow, KeyFits};
-ghost use Rattle.rc_tfile.specs.Items.{item_code, HeadItem, ChangeItem, RowItem, IsItem, bytes_code, IsPartKey};
+ghost use Rattle.rc_tfile.specs.Items.{item_code, HeadItem, ChangeItem, RowItem, IsItem, bytes_code};
 ghost use Rattle.rc_tfile.specs.Reading.{Starts, part_item};
 ghost use Rattle.rc_tfile.specs.calls.Reading.{head_code, part_code, text_code, HasText, IsHead, IsPart};
 
 use crate::spelling::{CHANGE, PART, ROW};
 use rc_cell::{Row, Tomb};
 use rc_mutation::Head;
-use rc_position::{Key, PartKey, Pos};
+use rc_position::{Key, LONGEST_PARTITION_KEY, PartKey, Pos};
 use rc_rowcode::{read_key, read_pos, read_row, read_tomb};
 use rc_schema::{Schema, SchemaTextErr};
 use std::alloc::{AllocError, Global};
@@ -75,7 +76,7 @@ pub fn read_part_key(alloc: Global, bytes: &[u8]) -> Result<Option<(PartKey, usi
         return Ok(None);
     };
     let len = *first as usize;
-    if len < 1 || len > 64 || len > rest.len() {
+    if len < 1 || len > LONGEST_PARTITION_KEY || len > rest.len() {
         return Ok(None);
     }
     let key = PartKey::from_slice(alloc, &rest[..len])?;

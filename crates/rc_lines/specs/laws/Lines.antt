@@ -29,7 +29,7 @@ use Rattle.rc_position.specs.declared.positions.Pos.{Pos}
 use Rattle.rc_position.specs.declared.positions.Weight.{Weight}
 use Rattle.rc_position.specs.declared.positions.Weight.TheVariants.{Before, At, After}
 use Rattle.rc_position.specs.declared.slices.Slice.{Slice}
-use Rattle.rc_position.specs.Position.{prefix_cmp, pos_cmp, start_bound, end_bound, IsBefore}
+use Rattle.rc_position.specs.Position.{prefix_cmp, pos_cmp, start_bound, end_bound, IsBefore, longest_partition_key}
 use Rattle.rc_query.specs.Answer.{whole_slice}
 use Rattle.rc_ranges.specs.declared.pieces.Piece.{Piece}
 use Rattle.rc_schema.specs.declared.kinds.CkKind.{CkKind}
@@ -309,7 +309,7 @@ static_sayable names row [] h below e sorted one = tt
 static_sayable names row (c ∷ cells) h below e sorted one = cells_sayable (cell_stamp c.1) names row (c ∷ cells) h below e sorted one
 
 key_sayable : (key : List ℕ) → IsPartitionKey key → IsSomeKey key
-key_sayable key is = (is.0, up_to 1 (length key) (both (nat_le 1 (length key)) (nat_le (length key) 64) is.1).0)
+key_sayable key is = (is.0, up_to 1 (length key) (both (nat_le 1 (length key)) (nat_le (length key) longest_partition_key) is.1).0)
 
 row_written : (key : List ℕ) (ck names : List (List ℕ)) (marker : Option ℤ) (tomb : Option Tomb) (cells : List (ℕ × Cell)) (line : List ℕ)
     → shape_line (Written key (OfRow ck marker tomb (cells_said names cells))) ≡ Some line → is_written (record { marker = marker; tomb = tomb; cells = cells }) ≡ true
@@ -327,7 +327,7 @@ IsBack schema key m = (line : List ℕ) → shape_line (Written key (change_said
 
 module _ (schema : SchemaValue) (is : is_schema schema ≡ true) (key : List ℕ) (is_key : IsPartitionKey key) where
   key_short : length (printed_bytes key) ≤ 192
-  key_short = omega (arith, spelled_short key, up_to (length key) 64 (both (nat_le 1 (length key)) (nat_le (length key) 64) is_key.1).1)
+  key_short = omega (arith, spelled_short key, up_to (length key) longest_partition_key (both (nat_le 1 (length key)) (nat_le (length key) longest_partition_key) is_key.1).1)
 
   row_back : (ck : List Comp) (row : Row) → ChangeFits schema (row_alone ck row) → IsSayableWrite (row_alone ck row) → IsBack schema key (row_alone ck row)
   row_back ck row fits can line made =

@@ -11,6 +11,7 @@ use Rattle.rc_position.specs.declared.comps.Comp.{Comp}
 use Rattle.rc_position.specs.declared.comps.Comp.TheVariants.{Int, Text}
 use Rattle.rc_position.specs.declared.positions.Weight.TheVariants.{Before, At, After}
 use Rattle.rc_position.specs.declared.positions.Pos.{Pos}
+use Rattle.rc_position.specs.Position.{longest_text}
 
 -- takes a spelling from the front of bytes: its value and the bytes behind, or none
 abbrev pub Parser : Type 0 → Type 0
@@ -46,7 +47,7 @@ parse_tomb bytes = option_and_then (λ ts. option_map (λ dt. (record { ts = ts.
 -- a length in one byte, and so many bytes
 unfoldable pub parse_text : Parser Comp
 parse_text [] = None
-parse_text (n ∷ rest) = option_map (λ t. (Text t.0, t.1)) (parse_bytes 64 n rest)
+parse_text (n ∷ rest) = option_map (λ t. (Text t.0, t.1)) (parse_bytes longest_text n rest)
 
 -- a component: 0 and a number, or 1 and a text
 unfoldable pub parse_component : Parser Comp

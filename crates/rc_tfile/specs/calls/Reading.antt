@@ -1,11 +1,12 @@
 -- The parts of an item as they are read.
 use Rattle.std.specs.Prelude.{◌<◌, ◌^◌, ℕ, List, ◌++◌, length, IfSome, IsTrue}
+use Rattle.rc_position.specs.Position.{IsPartKey}
 use Rattle.rc_rowcode.specs.Spelling.{length_code, optional_code, tomb_code, row_code, IsTomb, IsCodedRow}
 use Rattle.rc_schema.specs.SchemaValue.{SchemaValue, is_schema}
 use Rattle.rc_schema.specs.SchemaText.{schema_text}
 use Rattle.rc_mutation.specs.declared.fragments.Head.{Head}
 use Rattle.rc_tfile.specs.declared.reading.Part.{Part}
-use Rattle.rc_tfile.specs.Items.{bytes_code, IsPartKey}
+use Rattle.rc_tfile.specs.Items.{bytes_code}
 
 -- a partition's head: its tombstone, then its static row
 abbrev pub head_code : Head → List ℕ

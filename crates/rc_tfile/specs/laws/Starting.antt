@@ -2,13 +2,14 @@
 use Rattle.std.proofs.Common.{◌≡◌, ℕ, ◌+◌, ◌≤◌, List, [], ◌∷◌, ◌++◌, length, take, drop, Option, Some, None, refl, sym, ap, ◌∙◌, arith, append_assoc}
 use Rattle.std.specs.Prelude.{IfSome}
 use Rattle.std.proofs.lemmas.List.{take_at, drop_at, take-append-drop, length-append, length-take-le}
+use Rattle.rc_position.specs.Position.{IsPartKey}
 use Rattle.rc_cell.specs.declared.writes.Tomb.{Tomb}
 use Rattle.rc_rowcode.specs.Spelling.{ReadsPrefix, optional_code, tomb_code, key_code, pos_code, row_code, IsTomb, IsKey, IsPos, IsCodedRow}
 use Rattle.rc_rowcode.specs.laws.Codecs.{tomb_codec, optional_codec, key_codec, pos_codec}
 use Rattle.rc_rowcode.specs.laws.RowCodec.{row_codec}
 use Rattle.rc_rowcode.specs.laws.Read.{one_spelling}
 use Rattle.rc_tfile.specs.Reading.{Starts}
-use Rattle.rc_tfile.specs.Items.{bytes_code, IsPartKey}
+use Rattle.rc_tfile.specs.Items.{bytes_code}
 
 -- no spelling begins another
 abbrev pub PrefixFree : {X : Type 0} → (X → List ℕ) → (X → Type 0) → Type 0

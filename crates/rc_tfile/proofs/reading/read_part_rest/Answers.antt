@@ -1,9 +1,10 @@
 -- One value behind the other.
 use Rattle.std.proofs.Common.{subst, drop, Some, None}
 use Rattle.std.proofs.lemmas.List.{take_rest}
+use Rattle.rc_position.specs.Position.{IsPartKey}
 use Rattle.rc_tfile.specs.Reading.{Starts}
 use Rattle.rc_tfile.specs.calls.Reading.{head_code, IsHead}
-use Rattle.rc_tfile.specs.Items.{bytes_code, IsPartKey}
+use Rattle.rc_tfile.specs.Items.{bytes_code}
 use Rattle.rc_tfile.specs.laws.Starting.{second_missing, both_there, key_free}
 use Rattle.rc_tfile.proofs.reading.read_part_rest.Goals as goal
 
