@@ -12,7 +12,7 @@ use Rattle.rc_stream.specs.Stream.{Stream}
 use Rattle.rc_stream.specs.laws.Spent.{chain-keeps}
 use Rattle.rc_cursor.specs.declared.readers.SnapshotReader.{SnapshotReader}
 use Rattle.rc_cursor.specs.Snapshots.{kind_seen, versions_seen}
-use Rattle.rc_cacheread.specs.Did.{KnownStep, ReaderCall, reader_state}
+use Rattle.rc_cacheread.specs.Did.{IsAnswered, KnownStep, ReaderCall, reader_state}
 use Rattle.rc_filler.specs.declared.fillers.CacheFiller.{CacheFiller}
 use Rattle.rc_filler.specs.Fills.{IsCacheFill, IsUsedAsBefore}
 use Rattle.rc_snapshots.specs.laws.Seeing.{snap-then}
@@ -124,6 +124,21 @@ none-read (Some s) b c w v l e k n = absurd (cc)
 none-read None (Some s) c w v l e k n = absurd (cc)
 none-read None None c w v l e k n = (none-of c k, ap (λ (x : Readings). x.list) e ∙ l)
 
+-- what a call left that was answered was read
+some-of : (o : Option Stream) → (o ≡ None → true ≡ false) → is_some o ≡ true
+some-of None h = (let n = h refl in absurd (cc))
+some-of (Some s) h = refl
+
+answered-read : (u : Underlying) → IsAnswered {H = Memory} of_underlying.did u → is_some u.list ≡ true
+answered-read u (f, h, w, d, g, v, did) = did.kept ∙ some-of (option_or f.list w.list) did.refused
+
+-- so where nothing was read, no call was answered
+unanswered : (A : Type 0) (u : Underlying) (b : Option Stream) → IsAnswered {H = Memory} of_underlying.did u → option_or u.list b ≡ None → A
+unanswered A u b a n = not-none u.list b (answered-read u a) n where
+  not-none : (a b : Option Stream) → is_some a ≡ true → option_or a b ≡ None → A
+  not-none None b e n = absurd (cc)
+  not-none (Some s) b e n = absurd (cc)
+
 module _ (S : ℕ) where
   abbrev State : Type 0
   State = SnapshotReader × Underlying × StreamFiller × Memory × Readings
@@ -143,11 +158,11 @@ module _ (S : ℕ) where
     pub filler : t.2 ≡ s.2
     pub kept : is_some (had t) ≡ is_some (had s)
     pub missed : IsSome (had s) → t.4.missed ≡ s.4.missed
-    pub unread : had s ≡ None → (t.1 ≡ s.1) × (t.4.list ≡ None)
+    pub unread : had s ≡ None → (t.3 ≡ s.3) × (t.1 ≡ s.1) × (t.4.list ≡ None)
 
   module _ (laws : FillLaws S) where
     left-same : (s : State) → Left s s
-    left-same s = record { chains = leaves-same s.3; begun = refl; snap = refl; filler = refl; kept = refl; missed = λ h. refl; unread = λ n. (refl, read-none s.1.list s.4.list n) }
+    left-same s = record { chains = leaves-same s.3; begun = refl; snap = refl; filler = refl; kept = refl; missed = λ h. refl; unread = λ n. (refl, refl, read-none s.1.list s.4.list n) }
 
     left-then : (s t u : State) → Left s t → Left t u → Left s u
     left-then s t u a b = record {
@@ -157,23 +172,23 @@ module _ (S : ℕ) where
       filler = b.filler ∙ a.filler;
       kept = b.kept ∙ a.kept;
       missed = λ h. b.missed (a.kept ∙ h) ∙ a.missed h;
-      unread = λ n. (let x = a.unread n in let y = b.unread (none-of (had t) (a.kept ∙ ap is_some n)) in (y.0 ∙ x.0, y.1));
+      unread = λ n. (let x = a.unread n in let y = b.unread (none-of (had t) (a.kept ∙ ap is_some n)) in (y.0 ∙ x.0, y.1 ∙ x.1, y.2));
     }
 
     -- where what lies below, and the readings, are as they were
-    left-beside : (s t : State) → LeavesChains s.3 t.3 → t.0.snap ≡ s.0.snap → t.2 ≡ s.2 → t.1 ≡ s.1 → t.4 ≡ s.4 → Left s t
-    left-beside s t chains snap filler below readings = record {
+    left-beside : (s t : State) → LeavesChains s.3 t.3 → t.0.snap ≡ s.0.snap → t.2 ≡ s.2 → t.1 ≡ s.1 → t.4 ≡ s.4 → (had s ≡ None → t.3 ≡ s.3) → Left s t
+    left-beside s t chains snap filler below readings unread = record {
       chains = chains;
       begun = ap (λ (x : Readings). x.begun) readings;
       snap = snap;
       filler = filler;
       kept = λ i. is_some (option_or (below i).list (readings i).list);
       missed = λ h. ap (λ (x : Readings). x.missed) readings;
-      unread = λ n. (below, ap (λ (x : Readings). x.list) readings ∙ read-none s.1.list s.4.list n);
+      unread = λ n. (unread n, below, ap (λ (x : Readings). x.list) readings ∙ read-none s.1.list s.4.list n);
     }
 
     left-one : (c : Call) (ok : Bool) (s t : State) → Step c ok s t → Left s t
-    left-one c ok s t (inl d) = left-beside s t (leaves-on s.3 t.3 d.0.1.home) d.0.1.snap d.2 d.1 d.3
+    left-one c ok s t (inl d) = left-beside s t (leaves-on s.3 t.3 d.0.1.home) d.0.1.snap d.2 d.1 d.3 (λ n. d.0.1.home)
     left-one c ok s t (inr (inl d)) = record {
       chains = leaves-on s.3 t.3 d.2.home;
       begun = same-begun s.1.list s.4.list s.4 t.4 d.2.readings;
@@ -181,9 +196,9 @@ module _ (S : ℕ) where
       filler = d.4;
       kept = kept-below s.1.list s.4.list t.1.list s.4 t.4 refl d.2.readings d.2.kept;
       missed = none-missed s.1.list s.4.list s.4 t.4 d.2.readings;
-      unread = λ n. (let x = none-read s.1.list s.4.list t.1.list s.4 t.4 refl d.2.readings d.2.kept n in (λ i. record { list = x.0 i }, x.1));
+      unread = λ n. (let x = none-read s.1.list s.4.list t.1.list s.4 t.4 refl d.2.readings d.2.kept n in (d.2.home, λ i. record { list = x.0 i }, x.1));
     }
-    left-one c ok s t (inr (inr d)) = left-beside s t (leaves-fill S laws s.2 t.2 s.3 t.3 d.1) (ap (λ (r : SnapshotReader). r.snap) d.2) (same-filler S s.2 t.2 s.3 t.3 d.1) d.3 d.4
+    left-one c ok s t (inr (inr d)) = left-beside s t (leaves-fill S laws s.2 t.2 s.3 t.3 d.2) (ap (λ (r : SnapshotReader). r.snap) d.3) (same-filler S s.2 t.2 s.3 t.3 d.2) d.4 d.5 (unanswered (t.3 ≡ s.3) s.1 s.4.list d.1)
 
     pub left-all : (c : Call) (ok : Bool) (s t : State) → InTurn (Step c) ok s t → Left s t
     left-all c ok s t d = chain-keeps (Step c) Left left-same left-then (left-one c) ok s t d
@@ -196,7 +211,7 @@ module _ (S : ℕ) where
   answered-one : (c : Call) (s t : State) → Step c true s t → t.4.missed ≡ s.4.missed
   answered-one c s t (inl d) = ap (λ (x : Readings). x.missed) d.3
   answered-one c s t (inr (inl d)) = answered-missed s.1.list s.4.list s.4 t.4 d.2.readings d.2.refused
-  answered-one c s t (inr (inr d)) = ap (λ (x : Readings). x.missed) d.4
+  answered-one c s t (inr (inr d)) = ap (λ (x : Readings). x.missed) d.5
 
   answered-many : (c : Call) (n : ℕ) (s t : State) → StepsInTurn (Step c true) n s t → t.4.missed ≡ s.4.missed
   answered-many c zero s t e = ap (λ (x : State). x.4.missed) (sym e)

@@ -106,7 +106,7 @@ pub fn a_cached_stream_leaves_what_others_see<const S: usize>()
     a_fill_takes_no_segment();
 }
 
-/// A call over what is known to its snapshot leaves chains, readings and what is below a cached stream as they were. Where something was read, a call misses nothing, and it is there still; what was answered missed nothing; and where nothing was read, nothing is there afterwards.
+/// A call over what is known to its snapshot leaves chains, readings and what is below a cached stream as they were. Where something was read, a call misses nothing, and it is there still; what was answered missed nothing; and where nothing was read, nothing is there afterwards, and nothing was filled: the chains are as they were.
 pub fn a_cached_stream_misses_only_what_is_not_known<const S: usize>()
     ensures known { (r : OfCache) (m : Memory) (w : Read) (c : Call) (ok : Bool) (t : OfCache) (n : Memory) (v : Read) → ⟦<CacheReader<SnapshotReader, Underlying, StreamFiller> as Frags<Chains<S>, Readings>>⟧.did r m w c ok t n v →
         IsKnownFor c (Knows m r.known.snap) (IsHeadSeen m r.known.snap) (stand r.spot) r.to → (n ≡ m) × (v ≡ w) × (t.below ≡ r.below) × IsKnownFor c (Knows n t.known.snap) (IsHeadSeen n t.known.snap) (stand t.spot) t.to }
@@ -114,7 +114,7 @@ pub fn a_cached_stream_misses_only_what_is_not_known<const S: usize>()
         IsSome (read_below r w) → (v.missed ≡ w.missed) × IsSome (read_below t v) }
     ensures answered { (r : OfCache) (m : Memory) (w : Read) (c : Call) (t : OfCache) (n : Memory) (v : Read) → ⟦<CacheReader<SnapshotReader, Underlying, StreamFiller> as Frags<Chains<S>, Readings>>⟧.did r m w c true t n v → v.missed ≡ w.missed }
     ensures unread { (r : OfCache) (m : Memory) (w : Read) (c : Call) (ok : Bool) (t : OfCache) (n : Memory) (v : Read) → ⟦<CacheReader<SnapshotReader, Underlying, StreamFiller> as Frags<Chains<S>, Readings>>⟧.did r m w c ok t n v →
-        read_below r w ≡ None → (t.below ≡ r.below) × (v.list ≡ None) }
+        read_below r w ≡ None → (n ≡ m) × (t.below ≡ r.below) × (v.list ≡ None) }
 {
     a_fill_spares_memtables_and_readers();
     a_fill_takes_no_segment();

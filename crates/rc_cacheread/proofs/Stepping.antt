@@ -19,7 +19,7 @@ use Rattle.rc_cacheread.specs.declared.readers.Stage.TheVariants.{Within}
 use Rattle.rc_cacheread.specs.declared.spots.Spot.{Spot}
 use Rattle.rc_cacheread.specs.declared.spots.Step.{Step}
 use Rattle.rc_cacheread.specs.calls.Below.{Fillings, Filling}
-use Rattle.rc_cacheread.specs.Did.{IsBelow, KnownStep, ReaderCall}
+use Rattle.rc_cacheread.specs.Did.{IsAnswered, IsBelow, KnownStep, ReaderCall}
 use Rattle.rc_cacheread.specs.calls.Did.{ReaderStepSays}
 use Rattle.rc_cacheread.specs.Reading.{Reads, StandFrom, said_at}
 use Rattle.rc_cacheread.specs.Sharing.{Fit, Fits, IsAllKnown, IsPlaceAt, IsReaderOf, IsReady, IsSaidBelow, Kept, Leads, OfBelow, OfFiller, OfKnown, Sees, SeesOf, StaysReader}
@@ -223,8 +223,8 @@ module _ {K F P H W : Type 0} (kn : OfKnown K H) (be : OfBelow F H W) (fi : OfFi
   pub below-call : (c : Call) (k : K) (p : P) (ok : Bool) (b n : F) (h g : H) (w v : W) (d : Call) → IsBelow c d → be.did b h w d ok n g v → ReaderCall kn be fi c ok (k, b, p, h, w) (k, n, p, g, v)
   below-call c k p ok b n h g w v d i e = inr (inl (d, i, e, refl, refl))
 
-  pub fill-calls : (c : Call) (k : K) (b : F) (w : W) (p q : P) (h g : H) → Fillings fi.fills p h q g → Many (ReaderCall kn be fi c true) (k, b, p, h, w) (k, b, q, g, w)
-  fill-calls c k b w p q h g d = chain-on (ReaderCall kn be fi c) (λ ok s t. (ok ≡ true) × Filling fi.fills s t) (λ (s : P × H). (k, b, s.0, s.1, w)) (λ ok s t e. inr (inr (e.0, e.1, refl, refl, refl))) true (p, h) (q, g) (marked d.0 (p, h) (q, g) d.1) where
+  pub fill-calls : (c : Call) (k : K) (b : F) (w : W) (p q : P) (h g : H) → IsAnswered be.did b → Fillings fi.fills p h q g → Many (ReaderCall kn be fi c true) (k, b, p, h, w) (k, b, q, g, w)
+  fill-calls c k b w p q h g a d = chain-on (ReaderCall kn be fi c) (λ ok s t. (ok ≡ true) × Filling fi.fills s t) (λ (s : P × H). (k, b, s.0, s.1, w)) (λ ok s t e. inr (inr (e.0, a, e.1, refl, refl, refl))) true (p, h) (q, g) (marked d.0 (p, h) (q, g) d.1) where
     marked : (n : ℕ) (s t : P × H) → StepsInTurn (Filling fi.fills) n s t → Many (λ s t. (true ≡ true) × Filling fi.fills s t) s t
     marked zero s t e = (0, e)
     marked (suc n) s t e = (let r = marked n e.0 t e.2 in (suc r.0, (e.0, (refl, e.1), r.1)))

@@ -1,4 +1,5 @@
 -- What a call of a reader did: calls of its parts, one after another.
+--     IsAnswered     a stream as a call left it that was answered
 --     ReaderCall     a call of the snapshot, of the stream below, or of the filler
 --     ReaderFilled   what calls leave of what is known
 --     ReaderDid      a call of a reader: which calls, none but the snapshot's where what is passed is known, and that it is known afterwards
@@ -24,12 +25,16 @@ IsBelow OfHead d = d ≡ OfHead
 IsBelow (OfSeek x) d = ⊥
 IsBelow (OfNext y) d = (d ≡ OfNext y) ⊎ ((x : Pos) × (d ≡ OfSeek x) × Reaches x y)
 
--- a call of the snapshot, of the stream below, or of the filler; a fill is never refused
+-- a stream as a call left it that was answered
+abbrev pub IsAnswered : {F H W : Type 0} → (F → H → W → Call → Bool → F → H → W → Type 0) → F → Type 0
+IsAnswered {F} {H} {W} did t = (f : F) × (h : H) × (w : W) × (d : Call) × (g : H) × (v : W) × did f h w d true t g v
+
+-- a call of the snapshot, of the stream below, or of the filler; a fill is never refused, and stands behind a call of the stream below that was answered
 abbrev pub ReaderCall : {K F P H W : Type 0} → OfKnown K H → OfBelow F H W → OfFiller P H → Call → Bool → K × F × P × H × W → K × F × P × H × W → Type 0
 ReaderCall kn be fi c ok s t =
     (KnownStep kn.did ok (s.0, s.3) (t.0, t.3) × (t.1 ≡ s.1) × (t.2 ≡ s.2) × (t.4 ≡ s.4))
     ⊎ (((d : Call) × IsBelow c d × be.did s.1 s.3 s.4 d ok t.1 t.3 t.4 × (t.0 ≡ s.0) × (t.2 ≡ s.2))
-    ⊎ ((ok ≡ true) × fi.fills s.2 s.3 t.2 t.3 × (t.0 ≡ s.0) × (t.1 ≡ s.1) × (t.4 ≡ s.4)))
+    ⊎ ((ok ≡ true) × IsAnswered be.did s.1 × fi.fills s.2 s.3 t.2 t.3 × (t.0 ≡ s.0) × (t.1 ≡ s.1) × (t.4 ≡ s.4)))
 
 -- a reader with its home and its store
 abbrev pub reader_state : {K F P H W : Type 0} → CacheReader K F P → H → W → K × F × P × H × W

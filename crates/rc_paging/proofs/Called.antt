@@ -2,7 +2,7 @@
 use Rattle.std.proofs.Common.{◌≡◌, ℕ, Bool, true, false, Option, Some, None, refl, sym, ap, subst, inl, ◌∙◌}
 use Rattle.std.specs.declared.cmp.Ordering.TheVariants.{Less, Equal, Greater}
 use Rattle.std.specs.Ordering.{is_gt}
-use Rattle.std.specs.Option.{IsSome}
+use Rattle.std.specs.Option.{IsSome, option_or}
 use Rattle.rc_position.specs.declared.positions.Pos.{Pos}
 use Rattle.rc_position.specs.Position.{IsBefore, pos_cmp}
 use Rattle.rc_position.specs.laws.Bounds.{last_pos-greatest}
@@ -10,9 +10,11 @@ use Rattle.rc_position.specs.laws.Orders.{pos_cmp_same, pos_cmp_total}
 use Rattle.rc_memory.specs.Memory.{Memory}
 use Rattle.rc_chain.specs.declared.chains.Snap.{Snap}
 use Rattle.rc_stream.specs.Did.{Call, Call.OfHead, Call.OfNext, Call.OfSeek, Deed, InTurn, OurCall, TheirCall, merge_did, merge_state}
+use Rattle.rc_stream.specs.Stream.{Stream}
 use Rattle.rc_reader.specs.Steps.{OneStep, OpenCalls}
 use Rattle.rc_snapshots.specs.Streams.{first_position}
 use Rattle.rc_cached.specs.declared.readings.Readings.{Readings}
+use Rattle.rc_cached.specs.declared.underlying.Underlying.{Underlying}
 use Rattle.rc_cached.specs.Leaving.{LeavesChains}
 use Rattle.rc_core.specs.Version.{end_position}
 use Rattle.rc_cursor.specs.Snapshots.{IsHeadSeen, Knows}
@@ -101,6 +103,7 @@ cached_did S r m w c ok t n v = ReaderDid of_snapshot of_underlying (of_its_fill
 pub record CallLaws (S : ℕ) : Type 0 where
   pub leaves : (r : OfCache) (m : Memory) (w : Readings) (c : Call) (ok : Bool) (t : OfCache) (n : Memory) (v : Readings) → cached_did S r m w c ok t n v → LeavesChains m n × (v.begun ≡ w.begun) × ((s : Snap) → IsOfCached s r → IsOfCached s t)
   pub handed : (r : OfCache) (m : Memory) (w : Readings) (c : Call) (ok : Bool) (t : OfCache) (n : Memory) (v : Readings) → cached_did S r m w c ok t n v → IsSome (read_below r w) → (v.missed ≡ w.missed) × IsSome (read_below t v)
+  pub unread : (r : OfCache) (m : Memory) (w : Readings) (c : Call) (ok : Bool) (t : OfCache) (n : Memory) (v : Readings) → cached_did S r m w c ok t n v → read_below r w ≡ None → (n ≡ m) × (t.below ≡ r.below) × (v.list ≡ None)
   pub known : (r : OfCache) (m : Memory) (w : Readings) (c : Call) (ok : Bool) (t : OfCache) (n : Memory) (v : Readings) → cached_did S r m w c ok t n v → IsKnownFor c (Knows m r.known.snap) (IsHeadSeen m r.known.snap) (stand r.spot) r.to →
       (n ≡ m) × (v ≡ w) × (t.below ≡ r.below) × IsKnownFor c (Knows n t.known.snap) (IsHeadSeen n t.known.snap) (stand t.spot) t.to
 
@@ -119,9 +122,17 @@ known_for OfHead a m k = k.head
 known_for (OfSeek x) a m k = tt
 known_for (OfNext y) a m k = λ z from upto before. inl (k.each z (first_reaches z) (before_end z a.to before))
 
+-- where nothing was read, and nothing was handed in since, nothing is read
+none_first : (a b : Option Stream) → option_or a b ≡ None → a ≡ None
+none_first None b n = refl
+none_first (Some s) b n = absurd (cc)
+
+unread_still : (a b : OfCache) (w v : Readings) → read_below a w ≡ None → b.below ≡ a.below → v.list ≡ None → read_below b v ≡ None
+unread_still a b w v none below list = (let first = ap (λ (u : Underlying). u.list) below ∙ none_first a.below.list w.list none in λ i. option_or (first i) (list i))
+
 module _ (S : ℕ) (laws : CallLaws S) where
   pub cache_none : (r : Option OfCache) (m : Memory) (w : Readings) → KeptCache S r m w r m w
-  cache_none r m w = record { chains = leaves_same m; of = λ snap is. is; reader = λ below d. d; missed = λ d. (d, refl); known = λ snap is d. (refl, refl) }
+  cache_none r m w = record { chains = leaves_same m; of = λ snap is. is; reader = λ below d. d; missed = λ d. (d, refl); unread = λ d. (d, refl); known = λ snap is d. (refl, refl) }
 
   cache_same : (r t : Option OfCache) (m n : Memory) (w v : Readings) → t ≡ r → n ≡ m → v ≡ w → KeptCache S r m w t n v
   cache_same r t m n w v e home store = subst (λ x. KeptCache S r m w x n v) (sym e) (subst (λ x. KeptCache S r m w r x v) (sym home) (subst (λ x. KeptCache S r m w r m x) (sym store) (cache_none r m w)))
@@ -146,6 +157,7 @@ module _ (S : ℕ) (laws : CallLaws S) where
     of = of_some a b (laws.leaves a m w c ok b n v d).2;
     reader = λ below reads. d.stays below reads;
     missed = λ read. (let e = laws.handed a m w c ok b n v d read in (e.1, e.0));
+    unread = λ none. (let e = laws.unread a m w c ok b n v d none in (unread_still a b w v none e.1 e.2, e.0));
     known = known_some a m w c ok b n v d;
   }
 
@@ -155,6 +167,7 @@ module _ (S : ℕ) (laws : CallLaws S) where
     of = λ snap is. b.of snap (a.of snap is);
     reader = λ below d. b.reader below (a.reader below d);
     missed = λ d. (let e = a.missed d in let f = b.missed e.0 in (f.0, f.1 ∙ e.1));
+    unread = λ d. (let e = a.unread d in let f = b.unread e.0 in (f.0, f.1 ∙ e.1));
     known = λ snap is d. (let e = a.known snap is d in let f = b.known snap (a.of snap is) (subst (λ x. IsKnownWhole x snap) (sym e.0) d) in (f.0 ∙ e.0, f.1 ∙ e.1));
   }
 
@@ -211,6 +224,7 @@ module _ (S : ℕ) (laws : CallLaws S) where
     layers = λ held are. record { sealed = k.sealed held.written.sealed are.sealed; active = k.active held.written.active are.active; cached = k.cache.of held.cached are.cached };
     reader = k.cache.reader;
     missed = k.cache.missed;
+    unread = k.cache.unread;
     known = λ held are d. k.cache.known held.cached are.cached d;
   }
 
@@ -226,6 +240,7 @@ kept_then S s t u a b = record {
   layers = λ held are. b.layers held (a.layers held are);
   reader = λ below d. b.reader below (a.reader below d);
   missed = λ d. (let e = a.missed d in let f = b.missed e.0 in (f.0, f.1 ∙ e.1));
+  unread = λ d. (let e = a.unread d in let f = b.unread e.0 in (f.0, f.1 ∙ e.1));
   known = λ held are d. (let e = a.known held are d in let f = b.known held (a.layers held are) (subst (λ x. IsKnownWhole x held.cached) (sym e.0) d) in (f.0 ∙ e.0, f.1 ∙ e.1));
 }
 
@@ -240,6 +255,7 @@ by_cache S s t m n w v same k = record {
   };
   reader = k.reader;
   missed = k.missed;
+  unread = k.unread;
   known = λ held are d. k.known held.cached are.cached d;
 }
 
@@ -250,8 +266,9 @@ cache_then S r m w t n v u o x a b = record {
   of = λ snap is. b.of snap (a.of snap is);
   reader = λ below d. b.reader below (a.reader below d);
   missed = λ d. (let e = a.missed d in let f = b.missed e.0 in (f.0, f.1 ∙ e.1));
+  unread = λ d. (let e = a.unread d in let f = b.unread e.0 in (f.0, f.1 ∙ e.1));
   known = λ snap is d. (let e = a.known snap is d in let f = b.known snap (a.of snap is) (subst (λ x. IsKnownWhole x snap) (sym e.0) d) in (f.0 ∙ e.0, f.1 ∙ e.1));
 }
 
 pub cache_first : (S : ℕ) (r : Option OfCache) (m : Memory) (w : Readings) → KeptCache S r m w r m w
-cache_first S r m w = record { chains = leaves_same m; of = λ snap is. is; reader = λ below d. d; missed = λ d. (d, refl); known = λ snap is d. (refl, refl) }
+cache_first S r m w = record { chains = leaves_same m; of = λ snap is. is; reader = λ below d. d; missed = λ d. (d, refl); unread = λ d. (d, refl); known = λ snap is d. (refl, refl) }

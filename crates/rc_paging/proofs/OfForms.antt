@@ -2,7 +2,6 @@
 use Rattle.std.specs.Prelude.{⊤}
 use Rattle.std.proofs.Common.{◌≡◌, ◌++◌, ℕ, List, Result, Err, sym, subst}
 use Rattle.std.specs.declared.alloc.AllocError.{AllocError}
-use Rattle.rc_position.specs.declared.slices.Slice.{Slice}
 use Rattle.rc_mutation.specs.declared.mutations.Mutation.{Mutation}
 use Rattle.rc_query.specs.declared.lines.OutLine.{OutLine}
 use Rattle.rc_memory.specs.Memory.{Memory}
@@ -17,16 +16,15 @@ use Rattle.rc_paging.specs.declared.pages.OpenReader.{OpenReader}
 use Rattle.rc_paging.specs.Forms.{ByForm, held_by, lines_gone_past}
 use Rattle.rc_paging.specs.Pages.{LinesAreLeft, StandCached, StandFor}
 use Rattle.rc_paging.specs.Past.{lines_past}
-use Rattle.rc_paging.specs.Remainders.{IsRemainderOf}
 
 -- a page past the cache that was refused leaves the same lines
 pub past_refused : {T : Type 0} (left : Opened → Memory → List OutLine → Type 0) (P : OpenReader → Type 0) (m n : Memory) (r : PartReader) (o s : OpenedBehind) (lines : List OutLine) (count : ℕ) (gave : Result T AllocError) (x : AllocError) → r ≡ Past o → gave ≡ Err x →
     (LeavesBehind left m o lines → LeavesBehind left n s (left_behind gave count lines)) → ByForm P (λ q. LeavesBehind left m q lines) r → LeavesBehind left n s lines
 past_refused left P m n r o s lines count gave x is e law l = subst (λ z. LeavesBehind left n s (left_behind z count lines)) e (law (subst (ByForm P (λ q. LeavesBehind left m q lines)) is l))
 
--- what is left of a slice to a reader over the row cache
-pub cached_of : (r : PartReader) (o : OpenReader) (slice : Slice) → r ≡ Cached o → ByForm (λ q. IsRemainderOf slice q.remainder) (λ _. ⊤) r → IsRemainderOf slice o.remainder
-cached_of r o slice is h = subst (ByForm (λ q. IsRemainderOf slice q.remainder) (λ _. ⊤)) is h
+-- what holds of a reader over the row cache, if it is one
+pub cached_of : (P : OpenReader → Type 0) (r : PartReader) (o : OpenReader) → r ≡ Cached o → ByForm P (λ _. ⊤) r → P o
+cached_of P r o is h = subst (ByForm P (λ _. ⊤)) is h
 
 -- over other chains the same lines are left, by the form
 pub form_stays : (left : Opened → Memory → List OutLine → Type 0) → ((o : Opened) (m n : Memory) (lines : List OutLine) → SeeSameChanges (snaps_of o) m n → left o m lines → left o n lines) → (S : ℕ) →

@@ -7,9 +7,9 @@ ghost use Rattle.rc_opened.specs.Opened.{AreChangesOf};
 ghost use Rattle.rc_query.specs.declared.lines.OutLine.{OutLine};
 ghost use Rattle.rc_cached.specs.Leaving.{LeavesChains};
 ghost use Rattle.rc_cached.specs.Streams.{SayBelow};
-ghost use Rattle.rc_paging.specs.declared.pages.PageErr.TheVariants.{Missing};
+ghost use Rattle.rc_paging.specs.declared.pages.PageErr.TheVariants.{Missing, NoMemory};
 ghost use Rattle.rc_paging.specs.Forms.{ByForm, held_by, lines_gone_past};
-ghost use Rattle.rc_paging.specs.Pages.{StandFor, left_on, readings_with};
+ghost use Rattle.rc_paging.specs.Pages.{IsKnownWhole, StandFor, left_on, readings_with};
 ghost use Rattle.rc_paging.specs.Remainders.{IsRemainderOf};
 
 use crate::layers::{HeldSnaps, none_there};
@@ -50,7 +50,7 @@ impl<const S: usize> LeavesOver<Chains<S>> for PartReader {
 }
 
 impl PartReader {
-    /// Gives the first lines that are left, at most `count`, and whether there are more behind them. What was read of the tables of the partition, from its beginning, may be handed in; past the cache it is let go. `PageErr::Missing` when it is needed and was not, which is only over the row cache; `PageErr::NoMemory` when memory is refused: then none is given, and the same are left.
+    /// Gives the first lines that are left, at most `count`, and whether there are more behind them. What was read of the tables of the partition, from its beginning, may be handed in; past the cache it is let go. `PageErr::Missing` when it is needed and was not, which is only over the row cache; `PageErr::NoMemory` when memory is refused: then none is given, and the same are left. Where nothing was handed in, nothing is filled: the chains are as they were.
     pub fn read<const S: usize>(
         &mut self,
         alloc: Global,
@@ -65,6 +65,8 @@ impl PartReader {
         ensures of { (slice : Slice) → ByForm (λ o. IsRemainderOf slice o.remainder) (λ _. ⊤) self.old → ByForm (λ o. IsRemainderOf slice o.remainder) (λ _. ⊤) self.new }
         ensures held { held_by self.new ≡ held_by self.old }
         ensures missing { IfErr result (λ e. e ≡ Missing → IsSome (held_by self.old).cached × (read ≡ None)) }
+        ensures known { ByForm (λ o. IsKnownWhole chains.old o.held.cached) (λ _. ⊤) self.old → IfErr result (λ e. e ≡ NoMemory) }
+        ensures unread { read ≡ None → chains.new ≡ chains.old }
         ensures chains { LeavesChains chains.old chains.new }
     {
         match self {

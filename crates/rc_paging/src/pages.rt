@@ -57,7 +57,7 @@ impl OpenReader {
         }
     }
 
-    /// Gives the first lines that are left, at most `count`, and whether there are more behind them. What was read of the tables of the partition, from its beginning, may be handed in. `PageErr::Missing` when it is needed and was not; `PageErr::NoMemory` when memory is refused: then none is given, and the same are left.
+    /// Gives the first lines that are left, at most `count`, and whether there are more behind them. What was read of the tables of the partition, from its beginning, may be handed in. `PageErr::Missing` when it is needed and was not; `PageErr::NoMemory` when memory is refused: then none is given, and the same are left. Where nothing was handed in, nothing is filled: the chains are as they were.
     pub fn read<const S: usize>(
         &mut self,
         alloc: Global,
@@ -74,6 +74,7 @@ impl OpenReader {
         ensures missing { IfErr result (λ e. e ≡ Missing → IsSome self.old.held.cached × (read ≡ None)) }
         ensures known { IsKnownWhole chains.old self.old.held.cached → IfErr result (λ e. e ≡ NoMemory) }
         ensures quiet { IsKnownWhole chains.old self.old.held.cached → chains.new ≡ chains.old }
+        ensures unread { read ≡ None → chains.new ≡ chains.old }
         ensures chains { LeavesChains chains.old chains.new }
     {
         let held = take_out(&mut self.held);

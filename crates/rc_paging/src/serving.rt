@@ -66,6 +66,7 @@ pub(crate) fn serve<const S: usize>(
     ensures missing { IfErr result.1 (λ e. e ≡ Missing → IsSome held.cached × (read ≡ None)) }
     ensures known { IsKnownWhole chains.old held.cached → IfErr result.1 (λ e. e ≡ NoMemory) }
     ensures quiet { IsKnownWhole chains.old held.cached → chains.new ≡ chains.old }
+    ensures unread { read ≡ None → chains.new ≡ chains.old }
     ensures chains { LeavesChains chains.old chains.new }
 {
     new_layers_say_what_was_written::<S>();

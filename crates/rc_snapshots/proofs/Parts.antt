@@ -126,7 +126,7 @@ module _ (W : Type 0) where
   one-call : (c : Call) (ok : Bool) (s t : State) → ReaderCall kn be fi c ok s t → Unchanged s t
   one-call c ok s t (inl d) = (d.0.1.snap, d.2, d.0.1.home, d.3)
   one-call c ok s t (inr (inl d)) = (ap (λ (r : SnapshotReader). r.snap) d.3, d.4, sym d.2.0, sym d.2.1)
-  one-call c ok s t (inr (inr d)) = (ap (λ (r : SnapshotReader). r.snap) d.2, d.1.0, d.1.1, d.4)
+  one-call c ok s t (inr (inr d)) = (ap (λ (r : SnapshotReader). r.snap) d.3, d.2.0, d.2.1, d.5)
 
   pub all-calls : (c : Call) (ok : Bool) (s t : State) → InTurn (ReaderCall kn be fi c) ok s t → Unchanged s t
   all-calls c ok s t d = chain-keeps (ReaderCall kn be fi c) Unchanged (λ s. (refl, refl, refl, refl)) (λ s t u a b. (b.0 ∙ a.0, b.1 ∙ a.1, b.2 ∙ a.2, b.3 ∙ a.3)) (one-call c) ok s t d

@@ -1,5 +1,5 @@
 -- The words of a layer's cached stream, if there is one.
-use Rattle.std.specs.Prelude.{⊤, ℕ, List, Option, IfSome, MatchOption, IsSome}
+use Rattle.std.specs.Prelude.{◌≡◌, ⊤, ℕ, List, Option, None, IfSome, MatchOption, IsSome}
 use Rattle.rc_mutation.specs.declared.mutations.Mutation.{Mutation}
 use Rattle.rc_memory.specs.Memory.{Memory}
 use Rattle.rc_cacheread.specs.Sharing.{IsReaderOf, IsReady}
@@ -14,6 +14,10 @@ IsReaderIn S below m w cached = IfSome cached (λ r. IsReaderOf of_snapshot of_u
 -- there is no cached stream, or what its tables say was read
 abbrev pub IsReadIn : Readings → Option OfCache → Type 0
 IsReadIn w cached = MatchOption cached ⊤ (λ r. IsSome (read_below r w))
+
+-- there is no cached stream, or nothing of its tables was read
+abbrev pub IsUnreadIn : Readings → Option OfCache → Type 0
+IsUnreadIn w cached = IfSome cached (λ r. read_below r w ≡ None)
 
 -- where there is a cached stream, its calls may be made
 abbrev pub IsReadyIn : ℕ → Memory → Readings → Option OfCache → Type 0

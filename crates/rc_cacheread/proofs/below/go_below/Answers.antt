@@ -102,9 +102,10 @@ returns-in-Ok-next-clause-did g c = λ y covers.
     let w = c.args.store.now in
     let near : c.in-Ok.near ≡ near_of c.args.upto.now c.args.end = c.in-Ok.ensures in
     let e = end-on kn be fi r h w c.args.upto.now (near_of c.args.upto.now c.args.end) y c.requires.idle c.requires.stage (near-is c.args.upto.now c.args.end).0 (reach-through (near_of c.args.upto.now c.args.end) c.args.end r.to (near-within c.args.upto.now c.args.end) c.requires.inside) (no-whole kn be fi r h c.requires.idle c.requires.within c.requires.missing) covers in
+    let did = c.in-Ok-next.ensures.did y (subst (λ x. ReachesEnd (be.seen r.below h w) x y) (sym near) e) in
     many-many (ReaderCall kn be fi (OfNext y)) (r.known, r.below, r.filler, h, w) (r.known, c.next.new.self, r.filler, c.next.new.home, c.next.new.store) (r.known, c.next.new.self, c.take_found.new.filler, c.take_found.new.home, c.next.new.store)
-    (one (ReaderCall kn be fi (OfNext y)) (r.known, r.below, r.filler, h, w) (r.known, c.next.new.self, r.filler, c.next.new.home, c.next.new.store) (below-call kn be fi (OfNext y) r.known r.filler true r.below c.next.new.self h c.next.new.home w c.next.new.store (OfNext y) (inl refl) (c.in-Ok-next.ensures.did y (subst (λ x. ReachesEnd (be.seen r.below h w) x y) (sym near) e))))
-    (fill-calls kn be fi (OfNext y) r.known c.next.new.self c.next.new.store r.filler c.take_found.new.filler c.next.new.home c.take_found.new.home c.take_found.ensures.did)
+    (one (ReaderCall kn be fi (OfNext y)) (r.known, r.below, r.filler, h, w) (r.known, c.next.new.self, r.filler, c.next.new.home, c.next.new.store) (below-call kn be fi (OfNext y) r.known r.filler true r.below c.next.new.self h c.next.new.home w c.next.new.store (OfNext y) (inl refl) did))
+    (fill-calls kn be fi (OfNext y) r.known c.next.new.self c.next.new.store r.filler c.take_found.new.filler c.next.new.home c.take_found.new.home (r.below, h, w, OfNext y, c.next.new.home, c.next.new.store, did) c.take_found.ensures.did)
 
 pub returns-in-Ok-next-clause-ready : goal.returns-in-Ok-next-clause-ready
 returns-in-Ok-next-clause-ready g c =

@@ -81,9 +81,10 @@ returns-in-Ok-clause-did g c = λ y covers.
     let h = c.args.home.now in
     let w = c.args.store.now in
     let on = end-reaches kn be fi r h w c.args.upto.now y c.requires.idle c.requires.near covers in
+    let did = c.in-Ok.ensures.did y (inl on) in
     many-many (ReaderCall kn be fi (OfNext y)) (r.known, r.below, r.filler, h, w) (r.known, c.next.new.self, r.filler, c.next.new.home, c.next.new.store) (r.known, c.next.new.self, c.take_here.new.filler, c.take_here.new.home, c.next.new.store)
-    (one (ReaderCall kn be fi (OfNext y)) (r.known, r.below, r.filler, h, w) (r.known, c.next.new.self, r.filler, c.next.new.home, c.next.new.store) (below-call kn be fi (OfNext y) r.known r.filler true r.below c.next.new.self h c.next.new.home w c.next.new.store (OfNext y) (inl refl) (c.in-Ok.ensures.did y (inl on))))
-    (fill-calls kn be fi (OfNext y) r.known c.next.new.self c.next.new.store r.filler c.take_here.new.filler c.next.new.home c.take_here.new.home c.take_here.ensures.did)
+    (one (ReaderCall kn be fi (OfNext y)) (r.known, r.below, r.filler, h, w) (r.known, c.next.new.self, r.filler, c.next.new.home, c.next.new.store) (below-call kn be fi (OfNext y) r.known r.filler true r.below c.next.new.self h c.next.new.home w c.next.new.store (OfNext y) (inl refl) did))
+    (fill-calls kn be fi (OfNext y) r.known c.next.new.self c.next.new.store r.filler c.take_here.new.filler c.next.new.home c.take_here.new.home (r.below, h, w, OfNext y, c.next.new.home, c.next.new.store, did) c.take_here.ensures.did)
 
 pub returns-in-Ok-clause-ready : goal.returns-in-Ok-clause-ready
 returns-in-Ok-clause-ready g c =

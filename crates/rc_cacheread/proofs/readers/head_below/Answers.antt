@@ -95,7 +95,7 @@ returns-in-Ok-clause-calls g c =
     let w = c.args.store.now in
     many-many (ReaderCall kn be fi OfHead) (r.known, r.below, r.filler, h, w) (r.known, c.head.new.self, r.filler, c.head.new.home, c.head.new.store) (r.known, c.head.new.self, c.statics.new.self, c.statics.new.home, c.head.new.store)
     (one (ReaderCall kn be fi OfHead) (r.known, r.below, r.filler, h, w) (r.known, c.head.new.self, r.filler, c.head.new.home, c.head.new.store) (below-call kn be fi OfHead r.known r.filler true r.below c.head.new.self h c.head.new.home w c.head.new.store OfHead refl c.in-Ok.ensures.did))
-    (fill-calls kn be fi OfHead r.known c.head.new.self c.head.new.store r.filler c.statics.new.self c.head.new.home c.statics.new.home (1, ((c.statics.new.self, c.statics.new.home), c.statics.ensures.did, refl)))
+    (fill-calls kn be fi OfHead r.known c.head.new.self c.head.new.store r.filler c.statics.new.self c.head.new.home c.statics.new.home (r.below, h, w, OfHead, c.head.new.home, c.head.new.store, c.in-Ok.ensures.did) (1, ((c.statics.new.self, c.statics.new.home), c.statics.ensures.did, refl)))
 
 pub returns-in-Ok-clause-ready : goal.returns-in-Ok-clause-ready
 returns-in-Ok-clause-ready g c =

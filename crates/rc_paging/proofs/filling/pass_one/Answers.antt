@@ -7,12 +7,12 @@ use Rattle.rc_paging.proofs.filling.pass_one.Goals as goal
 
 pub returns-in-Ok-clause-kept : goal.returns-in-Ok-clause-kept
 returns-in-Ok-clause-kept g c =
-    let laws : CallLaws g.row.S = record { leaves = c.a_cached_stream_leaves_what_others_see.ensures.did; handed = c.a_cached_stream_misses_only_what_is_not_known.ensures.handed; known = c.a_cached_stream_misses_only_what_is_not_known.ensures.known } in
+    let laws : CallLaws g.row.S = record { leaves = c.a_cached_stream_leaves_what_others_see.ensures.did; handed = c.a_cached_stream_misses_only_what_is_not_known.ensures.handed; unread = c.a_cached_stream_misses_only_what_is_not_known.ensures.unread; known = c.a_cached_stream_misses_only_what_is_not_known.ensures.known } in
     let y = c.args.upto.now in
     keeps_cache g.row.S laws c.args.cached.now.stream c.next.new.self.stream c.args.chains.now c.args.readings.now (OfNext y) (has_answer c.next.result) c.next.new.home c.next.new.store (c.next.ensures.did y (inl (passes-itself y)))
 
 pub returns-in-Err-clause-kept : goal.returns-in-Err-clause-kept
 returns-in-Err-clause-kept g c =
-    let laws : CallLaws g.row.S = record { leaves = c.a_cached_stream_leaves_what_others_see.ensures.did; handed = c.a_cached_stream_misses_only_what_is_not_known.ensures.handed; known = c.a_cached_stream_misses_only_what_is_not_known.ensures.known } in
+    let laws : CallLaws g.row.S = record { leaves = c.a_cached_stream_leaves_what_others_see.ensures.did; handed = c.a_cached_stream_misses_only_what_is_not_known.ensures.handed; unread = c.a_cached_stream_misses_only_what_is_not_known.ensures.unread; known = c.a_cached_stream_misses_only_what_is_not_known.ensures.known } in
     let y = c.args.upto.now in
     keeps_cache g.row.S laws c.args.cached.now.stream c.next.new.self.stream c.args.chains.now c.args.readings.now (OfNext y) (has_answer c.next.result) c.next.new.home c.next.new.store (c.next.ensures.did y (inl (passes-itself y)))

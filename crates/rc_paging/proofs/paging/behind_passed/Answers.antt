@@ -30,7 +30,7 @@ returns-in-Err-clause-ready g c = c.the_same_is_ready.ensures c.read.new.self.st
 
 pub returns-in-Ok-clause-kept : goal.returns-in-Ok-clause-kept
 returns-in-Ok-clause-kept g c =
-    let laws : CallLaws g.row.S = record { leaves = c.a_cached_stream_leaves_what_others_see.ensures.did; handed = c.a_cached_stream_misses_only_what_is_not_known.ensures.handed; known = c.a_cached_stream_misses_only_what_is_not_known.ensures.known } in
+    let laws : CallLaws g.row.S = record { leaves = c.a_cached_stream_leaves_what_others_see.ensures.did; handed = c.a_cached_stream_misses_only_what_is_not_known.ensures.handed; unread = c.a_cached_stream_misses_only_what_is_not_known.ensures.unread; known = c.a_cached_stream_misses_only_what_is_not_known.ensures.known } in
     let x = c.args.reader.work.to in
     let s : Three = (c.args.reader.stream, c.args.chains.now, c.args.readings.now) in
     let t : Three = (c.read.new.self.stream, c.read.new.home, c.read.new.store) in
@@ -40,7 +40,7 @@ returns-in-Ok-clause-kept g c =
 
 pub returns-in-Err-clause-kept : goal.returns-in-Err-clause-kept
 returns-in-Err-clause-kept g c =
-    let laws : CallLaws g.row.S = record { leaves = c.a_cached_stream_leaves_what_others_see.ensures.did; handed = c.a_cached_stream_misses_only_what_is_not_known.ensures.handed; known = c.a_cached_stream_misses_only_what_is_not_known.ensures.known } in
+    let laws : CallLaws g.row.S = record { leaves = c.a_cached_stream_leaves_what_others_see.ensures.did; handed = c.a_cached_stream_misses_only_what_is_not_known.ensures.handed; unread = c.a_cached_stream_misses_only_what_is_not_known.ensures.unread; known = c.a_cached_stream_misses_only_what_is_not_known.ensures.known } in
     let x = c.args.reader.work.to in
     let s : Three = (c.args.reader.stream, c.args.chains.now, c.args.readings.now) in
     let t : Three = (c.read.new.self.stream, c.read.new.home, c.read.new.store) in

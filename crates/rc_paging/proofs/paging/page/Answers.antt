@@ -16,7 +16,7 @@ returns-in-Ok-clause-behind g c = λ s seen. c.behind_passed.ensures.behind (sli
 
 pub returns-in-Ok-clause-kept : goal.returns-in-Ok-clause-kept
 returns-in-Ok-clause-kept g c =
-    let laws : CallLaws g.row.S = record { leaves = c.a_cached_stream_leaves_what_others_see.ensures.did; handed = c.a_cached_stream_misses_only_what_is_not_known.ensures.handed; known = c.a_cached_stream_misses_only_what_is_not_known.ensures.known } in
+    let laws : CallLaws g.row.S = record { leaves = c.a_cached_stream_leaves_what_others_see.ensures.did; handed = c.a_cached_stream_misses_only_what_is_not_known.ensures.handed; unread = c.a_cached_stream_misses_only_what_is_not_known.ensures.unread; known = c.a_cached_stream_misses_only_what_is_not_known.ensures.known } in
     let s : Three = (c.args.layers, c.args.chains.now, c.args.readings.now) in
     let t : Three = (c.in-Ok.reader.stream, c.open.new.home, c.open.new.store) in
     let u : Three = (c.behind_passed.result.0, c.behind_passed.new.chains, c.behind_passed.new.readings) in
@@ -24,7 +24,7 @@ returns-in-Ok-clause-kept g c =
 
 pub returns-in-Err-clause-kept : goal.returns-in-Err-clause-kept
 returns-in-Err-clause-kept g c =
-    let laws : CallLaws g.row.S = record { leaves = c.a_cached_stream_leaves_what_others_see.ensures.did; handed = c.a_cached_stream_misses_only_what_is_not_known.ensures.handed; known = c.a_cached_stream_misses_only_what_is_not_known.ensures.known } in
+    let laws : CallLaws g.row.S = record { leaves = c.a_cached_stream_leaves_what_others_see.ensures.did; handed = c.a_cached_stream_misses_only_what_is_not_known.ensures.handed; unread = c.a_cached_stream_misses_only_what_is_not_known.ensures.unread; known = c.a_cached_stream_misses_only_what_is_not_known.ensures.known } in
     let s : Three = (c.args.layers, c.args.chains.now, c.args.readings.now) in
     let t : Three = (c.in-Err.layers, c.open.new.home, c.open.new.store) in
     opened g.row.S laws c.args.slice.now.from false s t c.in-Err.ensures.did

@@ -14,7 +14,7 @@ returns-in-Ok-next-clause-behind g c = λ lines left.
 
 pub returns-in-Ok-next-clause-kept : goal.returns-in-Ok-next-clause-kept
 returns-in-Ok-next-clause-kept g c =
-    let laws : CallLaws g.row.S = record { leaves = c.a_cached_stream_leaves_what_others_see.ensures.did; handed = c.a_cached_stream_misses_only_what_is_not_known.ensures.handed; known = c.a_cached_stream_misses_only_what_is_not_known.ensures.known } in
+    let laws : CallLaws g.row.S = record { leaves = c.a_cached_stream_leaves_what_others_see.ensures.did; handed = c.a_cached_stream_misses_only_what_is_not_known.ensures.handed; unread = c.a_cached_stream_misses_only_what_is_not_known.ensures.unread; known = c.a_cached_stream_misses_only_what_is_not_known.ensures.known } in
     let x = c.args.reader.now.work.to in
     let y = c.read.new.self.work.to in
     let s : Three = (c.args.reader.now.stream, c.args.chains.now, c.args.readings.now) in
@@ -26,7 +26,7 @@ returns-in-Ok-next-clause-kept g c =
 
 pub returns-in-Err-next-clause-kept : goal.returns-in-Err-next-clause-kept
 returns-in-Err-next-clause-kept g c =
-    let laws : CallLaws g.row.S = record { leaves = c.a_cached_stream_leaves_what_others_see.ensures.did; handed = c.a_cached_stream_misses_only_what_is_not_known.ensures.handed; known = c.a_cached_stream_misses_only_what_is_not_known.ensures.known } in
+    let laws : CallLaws g.row.S = record { leaves = c.a_cached_stream_leaves_what_others_see.ensures.did; handed = c.a_cached_stream_misses_only_what_is_not_known.ensures.handed; unread = c.a_cached_stream_misses_only_what_is_not_known.ensures.unread; known = c.a_cached_stream_misses_only_what_is_not_known.ensures.known } in
     let x = c.args.reader.now.work.to in
     let y = c.read.new.self.work.to in
     let s : Three = (c.args.reader.now.stream, c.args.chains.now, c.args.readings.now) in
@@ -38,7 +38,7 @@ returns-in-Err-next-clause-kept g c =
 
 pub returns-in-Err-clause-kept : goal.returns-in-Err-clause-kept
 returns-in-Err-clause-kept g c =
-    let laws : CallLaws g.row.S = record { leaves = c.a_cached_stream_leaves_what_others_see.ensures.did; handed = c.a_cached_stream_misses_only_what_is_not_known.ensures.handed; known = c.a_cached_stream_misses_only_what_is_not_known.ensures.known } in
+    let laws : CallLaws g.row.S = record { leaves = c.a_cached_stream_leaves_what_others_see.ensures.did; handed = c.a_cached_stream_misses_only_what_is_not_known.ensures.handed; unread = c.a_cached_stream_misses_only_what_is_not_known.ensures.unread; known = c.a_cached_stream_misses_only_what_is_not_known.ensures.known } in
     let x = c.args.reader.now.work.to in
     let s : Three = (c.args.reader.now.stream, c.args.chains.now, c.args.readings.now) in
     let t : Three = (c.read.new.self.stream, c.read.new.home, c.read.new.store) in

@@ -10,6 +10,7 @@ use Rattle.rc_paging.specs.calls.Pages.{why}
 use Rattle.rc_paging.specs.calls.Keeping.{Three}
 use Rattle.rc_paging.specs.calls.Words.{IsReadIn}
 use Rattle.rc_paging.proofs.Called.{kept_then}
+use Rattle.rc_paging.proofs.Fresh.{new_unread}
 use Rattle.rc_paging.proofs.Leaving.{leaves_then}
 use Rattle.rc_paging.proofs.Served.{missing_of, own_held, stand_still}
 use Rattle.rc_paging.proofs.serving.serve.Goals as goal
@@ -97,6 +98,18 @@ returns-clause-quiet g c = λ d.
     let e = c.page-layers.ensures.kept.known c.args.held are d in
     let f = c.filled_ahead-layers.ensures.kept.known c.args.held (c.page-layers.ensures.kept.layers c.args.held are) (subst (λ x. IsKnownWhole x c.args.held.cached) (sym e.0) d) in
     f.0 ∙ e.0
+
+pub returns-in-Ok-clause-unread : goal.returns-in-Ok-clause-unread
+returns-in-Ok-clause-unread g c = λ none.
+    let start = new_unread c.args.held c.layers-layers.result c.readings-readings.result c.layers-layers.ensures (ap (λ (w : Readings). w.list) c.readings-readings.ensures ∙ none) in
+    let e = c.page-layers.ensures.kept.unread start in
+    (c.filled_ahead-layers.ensures.kept.unread e.0).1 ∙ e.1
+
+pub returns-clause-unread : goal.returns-clause-unread
+returns-clause-unread g c = λ none.
+    let start = new_unread c.args.held c.layers-layers.result c.readings-readings.result c.layers-layers.ensures (ap (λ (w : Readings). w.list) c.readings-readings.ensures ∙ none) in
+    let e = c.page-layers.ensures.kept.unread start in
+    (c.filled_ahead-layers.ensures.kept.unread e.0).1 ∙ e.1
 
 pub returns-clause-known : goal.returns-clause-known
 returns-clause-known g c = λ d.

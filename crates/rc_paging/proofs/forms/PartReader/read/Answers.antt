@@ -1,4 +1,6 @@
 -- Each form leaves its own lines.
+use Rattle.rc_paging.specs.Pages.{IsKnownWhole}
+use Rattle.rc_paging.specs.Remainders.{IsRemainderOf}
 use Rattle.rc_paging.proofs.OfForms.{cached_of, past_refused}
 use Rattle.rc_paging.proofs.forms.PartReader.read.Goals as goal
 
@@ -7,4 +9,7 @@ returns-clause-left g c = λ below lines l say.
     past_refused _ _ c.args.chains.now c.read-in-Past.new.chains c.args.self.now c.in-Past.reader c.read-in-Past.new.self lines c.args.count c.read-in-Past.result c.in-Err.field-0 c.in-Past.is c.in-Err.is (c.read-in-Past.ensures.left lines) l
 
 pub returns-in-Cached-clause-of : goal.returns-in-Cached-clause-of
-returns-in-Cached-clause-of g c = λ slice is. c.read.ensures.of slice (cached_of c.args.self.now c.in-Cached.reader slice c.in-Cached.is is)
+returns-in-Cached-clause-of g c = λ slice is. c.read.ensures.of slice (cached_of (λ o. IsRemainderOf slice o.remainder) c.args.self.now c.in-Cached.reader c.in-Cached.is is)
+
+pub returns-in-Cached-clause-known : goal.returns-in-Cached-clause-known
+returns-in-Cached-clause-known g c = λ known. c.read.ensures.known (cached_of (λ o. IsKnownWhole c.args.chains.now o.held.cached) c.args.self.now c.in-Cached.reader c.in-Cached.is known)
