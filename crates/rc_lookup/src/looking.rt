@@ -222,6 +222,7 @@ pub fn lookup<const S: usize>(
     ensures forgotten { IsForgotten chains.old.dropped cache.old.entries cache.new.entries }
 {
     a_snapshot_stands_for_what_lies_below();
+    chains_of_the_cache_stay_in_use();
     each_change_leaves_the_caches_chains();
     the_cache_says_what_lies_below();
     what_leaves_the_caches_chains_leaves_the_entries();
