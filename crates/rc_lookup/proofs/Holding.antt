@@ -70,9 +70,9 @@ module _ (s : Snap) (old mid : Memory) (taken : IsSnapshotTaken (with_dropped []
       (λ same. here-or-beside s.pin t.pin
       (λ pin. inr (same, pin))
       (λ ne. inl (
-        let now : IsSome (pin_at (more was.0).chain.pins t.pin) = subst (Pins t.pin) (ap (chain_at mid) same ∙ taken-now) on in
-        let others = pin-others (snapshot_number was.0.chain) was.0.chain.pins t.pin (λ free. ne (free ∙ sym taken-number)) in
-        subst (Pins t.pin) (sym (ap (chain_at old) same ∙ was.1)) (subst (λ (o : Option ℕ). IsSome o) others now))))
+      let now : IsSome (pin_at (more was.0).chain.pins t.pin) = subst (Pins t.pin) (ap (chain_at mid) same ∙ taken-now) on in
+      let others = pin-others (snapshot_number was.0.chain) was.0.chain.pins t.pin (λ free. ne (free ∙ sym taken-number)) in
+      subst (Pins t.pin) (sym (ap (chain_at old) same ∙ was.1)) (subst (λ (o : Option ℕ). IsSome o) others now))))
       (λ ne. inl (subst (Pins t.pin) (taken-beside t.chain ne) on))
 
   -- no object moved
@@ -87,8 +87,8 @@ module _ (s : Snap) (old mid : Memory) (taken : IsSnapshotTaken (with_dropped []
   pub taken-there : (id : ℕ) → IsStillThere old mid id
   taken-there id k e = here-or-beside s.chain id
       (λ same. (
-        let own : k ≡ was.0 = same_some k was.0 (sym e ∙ ap (chain_at old) same ∙ was.1) in
-        (more k, ap (chain_at mid) same ∙ changed-now told mid s.chain more (ap (λ (m : Memory). m.chains) taken.now) k (was.1 ∙ ap (λ (q : KeptChain). Some q) (sym own)), record { kind = refl; attached = refl; versions = refl })))
+      let own : k ≡ was.0 = same_some k was.0 (sym e ∙ ap (chain_at old) same ∙ was.1) in
+      (more k, ap (chain_at mid) same ∙ changed-now told mid s.chain more (ap (λ (m : Memory). m.chains) taken.now) k (was.1 ∙ ap (λ (q : KeptChain). Some q) (sym own)), record { kind = refl; attached = refl; versions = refl })))
       (λ ne. (k, taken-beside id ne ∙ e, record { kind = refl; attached = refl; versions = refl }))
 
   -- the snapshot is handed out

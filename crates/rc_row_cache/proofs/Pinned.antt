@@ -101,11 +101,11 @@ module _ (old new : Memory) where
   snapshots-kept h = snapshots-least (λ id. there-or-not (chain_at new id)
       (λ none. let e : added_by pinned (chain_at new id) ≡ 0 = ap (added_by pinned) none in omega (arith, e))
       (λ n there. (
-        let k = h id n there in
-        let now : added_by pinned (chain_at new id) ≡ pinned n = ap (added_by pinned) there in
-        let was : added_by pinned (chain_at old id) ≡ pinned k.0 = ap (added_by pinned) k.1 in
-        let most = pinned-most 0 k.0 n k.2 (let few = k.3 in omega (arith, few)) in
-        omega (arith, now, was, most))))
+      let k = h id n there in
+      let now : added_by pinned (chain_at new id) ≡ pinned n = ap (added_by pinned) there in
+      let was : added_by pinned (chain_at old id) ≡ pinned k.0 = ap (added_by pinned) k.1 in
+      let most = pinned-most 0 k.0 n k.2 (let few = k.3 in omega (arith, few)) in
+      omega (arith, now, was, most))))
 
   -- a chain is gone, or one that nobody pins came to be
   pub snapshots-put : (id : ℕ) (c : Option KeptChain) → new.chains ≡ put_at_number id c old.chains → added_by pinned c ≡ 0 → cache_snapshots new ≤ cache_snapshots old
@@ -124,23 +124,23 @@ module _ (old new : Memory) where
 
     pub snapshots-at-most : (more : ℕ) → ((k : KeptChain) → (f k).chain.kind ≡ k.chain.kind) → ((k : KeptChain) → snapshots_of (f k) ≤ snapshots_of k + more) → cache_snapshots new ≤ cache_snapshots old + more
     snapshots-at-most more kinds most = (
-      let sums = snapshots-changed 0 more (there-or-not (chain_at old id)
-      (λ none. (let now : added_by pinned (chain_at new id) ≡ 0 = ap (added_by pinned) (chain-here old new id (option_map f (chain_at old id)) is ∙ ap (option_map f) none) in omega (arith, now)))
-      (λ k there. (
+        let sums = snapshots-changed 0 more (there-or-not (chain_at old id)
+        (λ none. (let now : added_by pinned (chain_at new id) ≡ 0 = ap (added_by pinned) (chain-here old new id (option_map f (chain_at old id)) is ∙ ap (option_map f) none) in omega (arith, now)))
+        (λ k there. (
         let now : added_by pinned (chain_at new id) ≡ pinned (f k) = ap (added_by pinned) (changed-now old new id f is k there) in
         let was : added_by pinned (chain_at old id) ≡ pinned k = ap (added_by pinned) there in
         let less = pinned-most more k (f k) (kinds k) (most k) in
         omega (arith, now, was, less)))) in
-      omega (arith, sums))
+        omega (arith, sums))
 
     pub snapshots-one-less : (k : KeptChain) → chain_at old id ≡ Some k → k.chain.kind ≡ Cache → (f k).chain.kind ≡ Cache → snapshots_of (f k) + 1 ≤ snapshots_of k → cache_snapshots new + 1 ≤ cache_snapshots old
     snapshots-one-less k there cached still less = (
-      let now : added_by pinned (chain_at new id) ≡ pinned (f k) = ap (added_by pinned) (changed-now old new id f is k there) in
-      let was : added_by pinned (chain_at old id) ≡ pinned k = ap (added_by pinned) there in
-      let before = pinned-cache k cached in
-      let after = pinned-cache (f k) still in
-      let sums = snapshots-changed 1 0 (omega (arith, now, was, before, after, less)) in
-      omega (arith, sums))
+        let now : added_by pinned (chain_at new id) ≡ pinned (f k) = ap (added_by pinned) (changed-now old new id f is k there) in
+        let was : added_by pinned (chain_at old id) ≡ pinned k = ap (added_by pinned) there in
+        let before = pinned-cache k cached in
+        let after = pinned-cache (f k) still in
+        let sums = snapshots-changed 1 0 (omega (arith, now, was, before, after, less)) in
+        omega (arith, sums))
 
 -- ---- snapshots
 
@@ -172,7 +172,7 @@ snapshots-dropped id list old new d = snapshots-put old new id None d.chains ref
 
 snapshots-portion : (portion : Portion) (id pin : ℕ) (old new : Memory) → IsPortionFilled portion id pin old new → cache_snapshots new ≤ cache_snapshots old
 snapshots-portion portion id pin old new f = (
-  let most = snapshots-at-most old new id (on_shown (on_newest_of (filled_with portion))) f.filled.chains 0 (λ k. refl) (λ k. omega arith) in omega (arith, most))
+    let most = snapshots-at-most old new id (on_shown (on_newest_of (filled_with portion))) f.filled.chains 0 (λ k. refl) (λ k. omega arith) in omega (arith, most))
 
 pub snapshots-detached : (id : ℕ) (old new : Memory) → IsDetached id old new → cache_snapshots new ≤ cache_snapshots old
 snapshots-detached id old new d = there-or-not (chain_at old id)
@@ -183,17 +183,17 @@ pub snapshots-before : (old new : Memory) → AreAsBefore old new → cache_snap
 snapshots-before old new b = snapshots-kept old new (λ id n e. there-or-not (chain_at old id)
     (λ none. absurd (none-is-none n (sym (b.absent id none) ∙ e)))
     (λ k there. (
-      let now = b.there id k there in
-      let same : now.0 ≡ n = same_some now.0 n (sym now.1 ∙ e) in
-      (k, there, subst (λ (q : KeptChain). q.chain.kind ≡ k.chain.kind) same now.2.kind, subst (λ (q : KeptChain). snapshots_of q ≤ snapshots_of k) same (pins-alike now.0.chain.pins k.chain.pins now.2.pins)))))
+    let now = b.there id k there in
+    let same : now.0 ≡ n = same_some now.0 n (sym now.1 ∙ e) in
+    (k, there, subst (λ (q : KeptChain). q.chain.kind ≡ k.chain.kind) same now.2.kind, subst (λ (q : KeptChain). snapshots_of q ≤ snapshots_of k) same (pins-alike now.0.chain.pins k.chain.pins now.2.pins)))))
 
 pub snapshots-invalidated : InvalidationLaws → (ids : List ℕ) (phase : ℕ) (old new : Memory) → IsInvalidated ids phase old new → cache_snapshots new ≤ cache_snapshots old
 snapshots-invalidated laws ids phase old new h = snapshots-kept old new (λ id n e. there-or-not (chain_at old id)
     (λ none. absurd (none-is-none n (sym (laws.none ids phase id old new h none) ∙ e)))
     (λ k there. (
-      let now = laws.readers ids phase id k old new h there in
-      let same : now.0 ≡ n = same_some now.0 n (sym now.1 ∙ e) in
-      (k, there, subst (λ (q : KeptChain). q.chain.kind ≡ k.chain.kind) same now.2.kind, subst (λ (q : KeptChain). snapshots_of q ≤ snapshots_of k) same (pins-are k now.0 now.2.pins)))))
+    let now = laws.readers ids phase id k old new h there in
+    let same : now.0 ≡ n = same_some now.0 n (sym now.1 ∙ e) in
+    (k, there, subst (λ (q : KeptChain). q.chain.kind ≡ k.chain.kind) same now.2.kind, subst (λ (q : KeptChain). snapshots_of q ≤ snapshots_of k) same (pins-are k now.0 now.2.pins)))))
 
 -- each chain of the cache is as it was
 pub snapshots-beside : (old new : Memory) → AreCachesSame old new → cache_snapshots new ≤ cache_snapshots old
@@ -225,11 +225,11 @@ module _ (laws : PinLaws) where
 
     pub snapshots-entered : (key : List ℕ) (pt : Option Tomb) (statics : Row) (phase : ℕ) (entries : List (List ℕ × ℕ)) (old new : Memory) (s : Snap) → IsEntered S key pt statics phase entries old new s → cache_snapshots new ≤ cache_snapshots old + 1
     snapshots-entered key pt statics phase entries old new s e = (
-      let made = snapshots-made old e.made e.room in
-      let told = snapshots-same e.made (with_dropped [] e.made) refl in
-      let opened = snapshots-opened s.chain pt (filled_statics statics) phase (with_dropped [] e.made) e.between e.opened in
-      let taken = snapshots-taken s.chain s.pin s.phase e.between new e.taken.taken in
-      omega (arith, made, told, opened, taken))
+        let made = snapshots-made old e.made e.room in
+        let told = snapshots-same e.made (with_dropped [] e.made) refl in
+        let opened = snapshots-opened s.chain pt (filled_statics statics) phase (with_dropped [] e.made) e.between e.opened in
+        let taken = snapshots-taken s.chain s.pin s.phase e.between new e.taken.taken in
+        omega (arith, made, told, opened, taken))
 
     pub snapshots-kept-out : (old new : Memory) → IsKeptOut S old new → cache_snapshots new ≤ cache_snapshots old
     snapshots-kept-out old new (made, room, full, counted) = (let less = snapshots-made old made room in let same = snapshots-same made new (ap (λ (m : Memory). m.chains) counted) in omega (arith, less, same))
@@ -238,10 +238,10 @@ module _ (laws : PinLaws) where
     snapshots-enter-refused pt statics phase old new (inl same) = snapshots-same old new (ap (λ (m : Memory). m.chains) same)
     snapshots-enter-refused pt statics phase old new (inr (made, room, inl slots)) = (let less = snapshots-made old made room in let same = snapshots-same made new (ap (λ (m : Memory). m.chains) slots.same) in omega (arith, less, same))
     snapshots-enter-refused pt statics phase old new (inr (made, room, inr (id, opened))) = (
-      let less = snapshots-made old made room in
-      let told = snapshots-same made (with_dropped [] made) refl in
-      let same = snapshots-opened id pt (filled_statics statics) phase (with_dropped [] made) new opened in
-      omega (arith, less, told, same))
+        let less = snapshots-made old made room in
+        let told = snapshots-same made (with_dropped [] made) refl in
+        let same = snapshots-opened id pt (filled_statics statics) phase (with_dropped [] made) new opened in
+        omega (arith, less, told, same))
 
     module _ (id pin : ℕ) where
       snapshots-fill : (old new : Memory) → IsFillDone S id pin old new → cache_snapshots new ≤ cache_snapshots old

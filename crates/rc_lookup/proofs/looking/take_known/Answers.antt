@@ -104,8 +104,7 @@ returns-in-Ok-Some-clause-stays g c = λ q id e on.
     let old = c.args.chains.now in
     let mid = c.snapshot.new.chains in
     let new = c.keep_known.new.chains in
-    let taken : IsTakenOf c.args.key.now c.snapshot.new.self.entries (with_dropped [] c.args.chains.now) c.snapshot.new.chains c.in-Ok-Some.snap = subst (λ r. IfOk r (λ o. IfSome o (λ (x : Snap). IsTakenOf c.args.key.now c.snapshot.new.self.entries (with_dropped [] c.args.chains.now) c.snapshot.new.chains x))) (c.in-Ok-Some.is ∙ ap Ok c.in-Ok-Some.field-0-is) c.snapshot.ensures.taken in
-    (
+    let taken : IsTakenOf c.args.key.now c.snapshot.new.self.entries (with_dropped [] c.args.chains.now) c.snapshot.new.chains c.in-Ok-Some.snap = subst (λ r. IfOk r (λ o. IfSome o (λ (x : Snap). IsTakenOf c.args.key.now c.snapshot.new.self.entries (with_dropped [] c.args.chains.now) c.snapshot.new.chains x))) (c.in-Ok-Some.is ∙ ap Ok c.in-Ok-Some.field-0-is) c.snapshot.ensures.taken in (
       c.snapshot.ensures.forgotten.stays q id e (entry-there old id c.known.ensures.told on),
       elim c.keep_known.ensures.left [
         | inl moved ↦ still-reordered old mid new moved id (taken-there s old mid taken.taken taken.there.0 id)
