@@ -1,5 +1,5 @@
 -- The snapshot that was taken stays, where all is known to it, and is taken back where something is not.
-use Rattle.std.proofs.Common.{◌≡◌, ℕ, List, [], Option, Some, None, sym, ap, ◌∙◌, subst, arith}
+use Rattle.std.proofs.Common.{inl, inr, ◌≡◌, ℕ, List, [], Option, Some, None, sym, ap, ◌∙◌, subst, arith}
 use Rattle.std.specs.Prelude.{IfNone, IfOk, IfSome, IsSomeAnd, Ok, OnErr}
 use Rattle.rc_schema.specs.SchemaValue.{SchemaValue}
 use Rattle.rc_memory.specs.Memory.{KeptChain, Member, Memory, chain_at, with_dropped}
