@@ -34,7 +34,8 @@ use Rattle.rc_lookup.specs.laws.Lost.{raised-low}
 use Rattle.rc_lookup.proofs.Counted.{room-range, skip-losses}
 use Rattle.rc_lookup.proofs.Kept.{here-or-beside}
 use Rattle.rc_lookup.proofs.Numbered.{chain-beside, chain-here, changed-beside, changed-now, none-is-none}
-use Rattle.rc_lookup.proofs.Rest.{KeepsPins, Pins, counts-then, none-more, none-pinned, rest-none, rest-same, rest-then, rest-told}
+use Rattle.rc_lookup.specs.laws.Rest.{counts-then, rest-none, rest-same, rest-then, rest-told}
+use Rattle.rc_lookup.proofs.Rest.{KeepsPins, Pins, none-more, none-pinned}
 use Rattle.rc_lookup.proofs.Turns.{FillLaws, told-pins}
 
 -- ---- room is made

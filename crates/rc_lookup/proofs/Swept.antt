@@ -21,7 +21,7 @@ use Rattle.rc_cursor.specs.Snapshots.{kind_in, kind_seen, versions_in, versions_
 use Rattle.rc_row_cache.specs.Fillers.{losses}
 use Rattle.rc_cached.specs.Stands.{HasCacheSnapshot}
 use Rattle.rc_snapshots.specs.Seeing.{AllStillSee, HasSnap, StillSees}
-use Rattle.rc_snapshots.specs.laws.Seeing.{seen-then, snap-then}
+use Rattle.rc_snapshots.specs.laws.Seeing.{snap-then}
 use Rattle.rc_row_cache.specs.Footprint.{AreInUse, HaveOneVersion, cache_snapshots, memtable_bytes}
 use Rattle.rc_lookup.specs.Known.{IsChainKnown, IsPartitionKnown}
 use Rattle.rc_lookup.specs.Rest.{LeavesBut, LeavesRest}
@@ -30,7 +30,8 @@ use Rattle.rc_lookup.specs.calls.Known.{IsSnapKnown}
 use Rattle.rc_lookup.specs.calls.Reading.{without_snap}
 use Rattle.rc_lookup.proofs.Kept.{has-pin, here-or-beside}
 use Rattle.rc_lookup.proofs.Numbered.{chain-beside, chain-here, changed-beside, changed-now}
-use Rattle.rc_lookup.proofs.Rest.{KeepsPins, Pins, counts-then, some-of}
+use Rattle.rc_lookup.specs.laws.Rest.{counts-then}
+use Rattle.rc_lookup.proofs.Rest.{KeepsPins, Pins, some-of}
 
 -- ---- whether a chain is to be dropped
 

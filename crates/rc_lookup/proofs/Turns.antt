@@ -30,7 +30,8 @@ use Rattle.rc_lookup.specs.laws.Lost.{raised-low, raised-top}
 use Rattle.rc_lookup.proofs.Counted.{filled-losses, room-leaves, room-none, room-raised, room-range, skip-losses}
 use Rattle.rc_lookup.proofs.Fills.{between, many-many}
 use Rattle.rc_lookup.proofs.Numbered.{changed-beside, none-is-none, there-or-not}
-use Rattle.rc_lookup.proofs.Rest.{KeepsPins, NoMorePins, no-count-fell, none-more, rest-none, rest-then}
+use Rattle.rc_lookup.specs.laws.Rest.{no-count-fell, rest-none, rest-then}
+use Rattle.rc_lookup.proofs.Rest.{KeepsPins, NoMorePins, none-more}
 
 -- what one fill leaves, and what many do
 pub record FillLaws : Type 0 where

@@ -1,5 +1,5 @@
 -- Where all is known to the snapshot it stays, and its chain is made recent.
-use Rattle.std.proofs.Common.{Option, Some, IsSome, inl, inr, refl, sym, ap, ◌∙◌, subst, arith}
+use Rattle.std.proofs.Common.{Option, IsSome, inl, refl, sym, ap, ◌∙◌, subst, arith}
 use Rattle.std.specs.Prelude.{IfNone, IfOk, IfSome, Ok}
 use Rattle.rc_mutation.specs.declared.fragments.Head.{Head}
 use Rattle.rc_memory.specs.Memory.{KeptChain}

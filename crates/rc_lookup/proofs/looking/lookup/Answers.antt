@@ -19,7 +19,8 @@ use Rattle.rc_lookup.specs.calls.Reading.{without_snap}
 use Rattle.rc_lookup.specs.Touched.{IsMadeRecent}
 use Rattle.rc_lookup.proofs.Losing.{looked-loses, told-loses}
 use Rattle.rc_lookup.proofs.Reordered.{entries-reordered, if-err, if-missed, looked-reordered, none-unread, rest-reordered}
-use Rattle.rc_lookup.proofs.Rest.{KeepsPins, rest-then, rest-told}
+use Rattle.rc_lookup.specs.laws.Rest.{rest-then, rest-told}
+use Rattle.rc_lookup.proofs.Rest.{KeepsPins}
 use Rattle.rc_lookup.proofs.Holding.{HoldLaws, back-rest}
 use Rattle.rc_lookup.proofs.Kept.{chain-known, found, is-some, none-there, same-number, snap-known, still, if-found, looked, same-source, told-found, told-looked, looked-none, unread}
 use Rattle.rc_lookup.specs.laws.Staying.{still-same}

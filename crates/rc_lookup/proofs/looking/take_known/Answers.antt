@@ -1,5 +1,5 @@
 -- The snapshot that was taken stays, where all is known to it, and is taken back where something is not.
-use Rattle.std.proofs.Common.{inl, inr, ◌≡◌, ℕ, List, [], Option, Some, None, sym, ap, ◌∙◌, subst, arith}
+use Rattle.std.proofs.Common.{inl, inr, ◌≡◌, ℕ, List, [], Option, None, sym, ap, ◌∙◌, subst, arith}
 use Rattle.std.specs.Prelude.{IfNone, IfOk, IfSome, IsSomeAnd, Ok, OnErr}
 use Rattle.rc_schema.specs.SchemaValue.{SchemaValue}
 use Rattle.rc_memory.specs.Memory.{KeptChain, Member, Memory, chain_at, with_dropped}
@@ -23,7 +23,8 @@ use Rattle.rc_lookup.proofs.Holding.{HoldLaws, back-rest, held-of, if-held, if-n
 use Rattle.rc_lookup.proofs.Kept.{looked, looked-none, none-there, same-number, same-source, snap-known, still, told-still, unread}
 use Rattle.rc_lookup.proofs.Losing.{kept-loses, looked-loses, told-loses}
 use Rattle.rc_lookup.proofs.Reordered.{entries-reordered, none-unread, rest-reordered, same-reordered, still-moved, touched-reordered}
-use Rattle.rc_lookup.proofs.Rest.{KeepsPins, but-then, rest-told}
+use Rattle.rc_lookup.specs.laws.Rest.{but-then, rest-told}
+use Rattle.rc_lookup.proofs.Rest.{KeepsPins}
 use Rattle.rc_lookup.proofs.Staying.{entry-there, still-reordered}
 use Rattle.rc_lookup.proofs.Swept.{chain-held}
 use Rattle.rc_lookup.proofs.looking.take_known.Goals as goal

@@ -1,5 +1,5 @@
 -- The entry is opened by the head of what was read, and what was read is filled into it.
-use Rattle.std.proofs.Common.{◌≡◌, ◌∷◌, ◌≤◌, ℕ, [], Option, None, Some, sym, ap, ◌∙◌, subst, arith}
+use Rattle.std.proofs.Common.{◌≡◌, ◌∷◌, ◌≤◌, ℕ, [], None, Some, sym, ap, ◌∙◌, subst, arith}
 use Rattle.std.specs.Prelude.{All, Contains, IfNone, IfOk, IfSome, Ok, OnErr}
 use Rattle.std.proofs.lemmas.List.Elements.{All-cons, All-nil}
 use Rattle.rc_mutation.specs.Source.{SameSource, source_at_head, source_at_static}
@@ -26,7 +26,7 @@ use Rattle.rc_lookup.proofs.Fills.{between}
 use Rattle.rc_lookup.proofs.Holding.{failed-done, if-held, match-held, never-none, on-failed}
 use Rattle.rc_lookup.proofs.Kept.{same-number, same-source}
 use Rattle.rc_lookup.proofs.Leaving.{own-below}
-use Rattle.rc_lookup.proofs.Rest.{but-then}
+use Rattle.rc_lookup.specs.laws.Rest.{but-then}
 use Rattle.rc_lookup.proofs.Statics.{statics-fit, statics-small}
 use Rattle.rc_lookup.proofs.Staying.{entry-entered, on-done}
 use Rattle.rc_lookup.proofs.Turns.{FillLaws}

@@ -1,5 +1,5 @@
 -- The snapshot stays where all was filled, and is given up where memory was refused.
-use Rattle.std.proofs.Common.{◌≡◌, ◌≤◌, Some, inl, inr, refl, sym, ◌∙◌, subst, arith}
+use Rattle.std.proofs.Common.{Some, inl, inr, refl, ◌∙◌, subst, arith}
 use Rattle.std.specs.Prelude.{OnOk}
 use Rattle.rc_core.specs.Version.{end_position}
 use Rattle.rc_memory.specs.Changes.{member_at}
@@ -12,7 +12,7 @@ use Rattle.rc_row_cache.specs.Entries.{LeavesCached}
 use Rattle.rc_row_cache.specs.Fillers.{losses}
 use Rattle.rc_row_cache.specs.Saying.{CacheSays}
 use Rattle.rc_snapshots.specs.Streams.{first_position}
-use Rattle.rc_lookup.proofs.Rest.{but-then}
+use Rattle.rc_lookup.specs.laws.Rest.{but-then}
 use Rattle.rc_lookup.proofs.populating.fill_held.Goals as goal
 
 pub give_up-requires : goal.give_up-requires

@@ -7,7 +7,8 @@ use Rattle.rc_lookup.specs.Rest.{LeavesRest}
 use Rattle.rc_lookup.proofs.Losing.{detached-loses}
 use Rattle.rc_lookup.proofs.Leaving.{FoundBeside, entry-cached, none-left, others-were}
 use Rattle.rc_lookup.proofs.Numbered.{there-or-not}
-use Rattle.rc_lookup.proofs.Rest.{rest-detached, rest-none}
+use Rattle.rc_lookup.specs.laws.Rest.{rest-none}
+use Rattle.rc_lookup.proofs.Rest.{rest-detached}
 use Rattle.rc_lookup.proofs.Staying.{entry-beside}
 use Rattle.rc_lookup.proofs.populating.forget_entry.Goals as goal
 
