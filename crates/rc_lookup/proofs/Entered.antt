@@ -18,6 +18,7 @@ use Rattle.rc_memory.specs.Recency.{IsRecency}
 use Rattle.rc_chain.specs.declared.chains.Snap.{Snap}
 use Rattle.rc_cached.specs.Evictions.{IsRoomMade}
 use Rattle.rc_cached.specs.Stands.{HasCacheSnapshot}
+use Rattle.rc_cached.specs.NoMore.{counts-then}
 use Rattle.rc_cached.specs.Filling.{IsEntryOpened, chain_opened, filled_statics, opened_places}
 use Rattle.rc_cursor.specs.Snapshots.{kind_in, versions_in}
 use Rattle.rc_stream.specs.Snapshot.{NoneLost}
@@ -34,7 +35,7 @@ use Rattle.rc_lookup.specs.laws.Lost.{raised-low}
 use Rattle.rc_lookup.proofs.Counted.{room-range, skip-losses}
 use Rattle.rc_lookup.proofs.Kept.{here-or-beside}
 use Rattle.rc_lookup.proofs.Numbered.{chain-beside, chain-here, changed-beside, changed-now, none-is-none}
-use Rattle.rc_lookup.specs.laws.Rest.{counts-then, rest-none, rest-same, rest-then, rest-told}
+use Rattle.rc_lookup.specs.laws.Rest.{rest-none, rest-same, rest-then, rest-told}
 use Rattle.rc_lookup.proofs.Rest.{KeepsPins, Pins, none-more, none-pinned}
 use Rattle.rc_lookup.proofs.Turns.{FillLaws, told-pins}
 

@@ -15,6 +15,7 @@ use Rattle.rc_memory.specs.Memory.{HasPin, KeptChain, Member, Memory, chain_at, 
 use Rattle.rc_memory.specs.laws.Places.{same_some}
 use Rattle.rc_chain.specs.declared.chains.Snap.{Snap}
 use Rattle.rc_cached.specs.LetGo.{NoCountFell}
+use Rattle.rc_cached.specs.NoMore.{counts-then}
 use Rattle.rc_cached.specs.Lives.{IsChainDropped, IsIdle}
 use Rattle.rc_cached.specs.Filling.{MayFill}
 use Rattle.rc_cursor.specs.Snapshots.{kind_in, kind_seen, versions_in, versions_seen, versions_upto}
@@ -30,7 +31,6 @@ use Rattle.rc_lookup.specs.calls.Known.{IsSnapKnown}
 use Rattle.rc_lookup.specs.calls.Reading.{without_snap}
 use Rattle.rc_lookup.proofs.Kept.{has-pin, here-or-beside}
 use Rattle.rc_lookup.proofs.Numbered.{chain-beside, chain-here, changed-beside, changed-now}
-use Rattle.rc_lookup.specs.laws.Rest.{counts-then}
 use Rattle.rc_lookup.proofs.Rest.{KeepsPins, Pins, some-of}
 
 -- ---- whether a chain is to be dropped

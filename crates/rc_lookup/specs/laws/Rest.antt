@@ -9,6 +9,7 @@ use Rattle.rc_memory.specs.Memory.{KeptChain, Memory, chain_at, with_dropped}
 use Rattle.rc_memory.specs.Room.{chain_bytes}
 use Rattle.rc_chain.specs.declared.chains.Snap.{Snap}
 use Rattle.rc_cached.specs.LetGo.{NoCountFell}
+use Rattle.rc_cached.specs.NoMore.{counts-then}
 use Rattle.rc_cursor.specs.Snapshots.{kind_in, versions_in}
 use Rattle.rc_snapshots.specs.laws.Seeing.{seen-then}
 use Rattle.rc_row_cache.specs.Footprint.{cache_snapshots, is_chain_of, memtable_bytes, snapshots_of}
@@ -51,9 +52,6 @@ pub rest-told : (told : List ℕ) (m : Memory) → LeavesRest m (with_dropped to
 rest-told told m = rest-same m (with_dropped told m) refl refl refl (record { evicted = omega arith; moved = omega arith; skipped = omega arith })
 
 -- ---- one after another
-
-pub counts-then : (old mid new : Memory) → NoCountFell old mid → NoCountFell mid new → NoCountFell old new
-counts-then old mid new a b = record { evicted = omega (arith, a.evicted, b.evicted); moved = omega (arith, a.moved, b.moved); skipped = omega (arith, a.skipped, b.skipped) }
 
 pub rest-then : (old mid new : Memory) → LeavesRest old mid → LeavesRest mid new → LeavesRest old new
 rest-then old mid new a b = record {
