@@ -1,5 +1,5 @@
 -- What is left where an entry is opened once there is room, and a snapshot taken of its chain; where no room can be made; and where memory is refused.
-use Rattle.std.proofs.Common.{inl, inr, ◌≡◌, ◌≤◌, ℕ, List, [], ◌∷◌, Option, Some, None, IsSome, length, refl, sym, ap, ◌∙◌, subst, arith}
+use Rattle.std.proofs.Common.{inl, inr, ◌≡◌, ◌≤◌, ◌+◌, ℕ, List, [], ◌∷◌, Option, Some, None, IsSome, length, refl, sym, ap, ◌∙◌, subst, arith}
 use Rattle.std.specs.Prelude.{Contains, IfSome, IsTrue}
 use Rattle.std.proofs.lemmas.List.Elements.{Contains-append_right}
 use Rattle.rc_cell.specs.declared.rows.Row.{Row}
@@ -17,6 +17,8 @@ use Rattle.rc_memory.specs.Memory.{HasPin, KeptChain, Memory, chain_at, counts_r
 use Rattle.rc_memory.specs.Recency.{IsRecency}
 use Rattle.rc_chain.specs.declared.chains.Snap.{Snap}
 use Rattle.rc_cached.specs.Evictions.{IsRoomMade}
+use Rattle.rc_cached.specs.Stands.{HasCacheSnapshot}
+use Rattle.rc_cached.specs.NoMore.{counts-then}
 use Rattle.rc_cached.specs.Filling.{IsEntryOpened, chain_opened, filled_statics, opened_places}
 use Rattle.rc_cursor.specs.Snapshots.{kind_in, versions_in}
 use Rattle.rc_stream.specs.Snapshot.{NoneLost}
@@ -26,14 +28,15 @@ use Rattle.rc_cached.specs.Fills.{IsCacheFill, Portion.OfRow}
 use Rattle.rc_cached.specs.Coming.{AreCountsInRange}
 use Rattle.rc_row_cache.specs.Calls.{IsEnterRefused, IsEntered, IsKeptOut}
 use Rattle.rc_snapshots.specs.Seeing.{AllStillSee}
-use Rattle.rc_row_cache.specs.Footprint.{AreInUse, HaveOneVersion, memtable_bytes}
-use Rattle.rc_lookup.specs.Rest.{LeavesRest}
-use Rattle.rc_lookup.specs.calls.Entering.{KnowsStaticRow, LeavesBut}
+use Rattle.rc_row_cache.specs.Footprint.{AreInUse, HaveOneVersion, cache_snapshots, memtable_bytes}
+use Rattle.rc_lookup.specs.Rest.{LeavesBut, LeavesRest}
+use Rattle.rc_lookup.specs.calls.Entering.{KnowsStaticRow}
 use Rattle.rc_lookup.specs.laws.Lost.{raised-low}
 use Rattle.rc_lookup.proofs.Counted.{room-range, skip-losses}
 use Rattle.rc_lookup.proofs.Kept.{here-or-beside}
 use Rattle.rc_lookup.proofs.Numbered.{chain-beside, chain-here, changed-beside, changed-now, none-is-none}
-use Rattle.rc_lookup.proofs.Rest.{Pins, counts-then, none-more, none-pinned, rest-none, rest-same, rest-then, rest-told}
+use Rattle.rc_lookup.specs.laws.Rest.{rest-none, rest-same, rest-then, rest-told}
+use Rattle.rc_lookup.proofs.Rest.{KeepsPins, Pins, none-more, none-pinned}
 use Rattle.rc_lookup.proofs.Turns.{FillLaws, told-pins}
 
 -- ---- room is made
@@ -43,6 +46,8 @@ pub record RoomLaws : Type 0 where
   pub bytes : (S : ℕ) (old new : Memory) → IsRoomMade S old new → memtable_bytes new ≤ memtable_bytes old
   pub one : (S : ℕ) (old new : Memory) → IsRoomMade S old new → HaveOneVersion old → HaveOneVersion new
   pub used : (S : ℕ) (old new : Memory) → IsRoomMade S old new → AreInUse old → AreInUse new
+  pub held : (S : ℕ) (old new : Memory) → IsRoomMade S old new → KeepsPins old new
+  pub snapshots : (S : ℕ) (old new : Memory) → IsRoomMade S old new → cache_snapshots new ≤ cache_snapshots old
 
 -- with one more skipped fill counted it is what a skipped fill leaves
 skipped-fill : (S : ℕ) (f : CacheFiller) (old mid : Memory) → IsRoomMade S old mid → IsCacheFill S f old f (counts_raised 0 1 0 mid)
@@ -66,6 +71,8 @@ rest-made laws fills S old mid rule room =
       bytes = laws.bytes S old mid room;
       one = laws.one S old mid room;
       used = λ _. laws.used S old mid room;
+      pins = laws.held S old mid room;
+      snapshots = laws.snapshots S old mid room;
     }
 
 -- ---- an entry is opened
@@ -119,14 +126,10 @@ module _ (S : ℕ) (key : List ℕ) (pt : Option Tomb) (statics : Row) (phase : 
     ap (λ (m : Memory). m.region.moved) e.taken.taken.now ∙ e.opened.region.moved,
   )
 
-  pub entered-but : AllStillSee old new → memtable_bytes new ≤ memtable_bytes old → (HaveOneVersion old → HaveOneVersion new) → (AreInUse old → AreInUse new) → LeavesBut s old new
-  entered-but seen bytes one used =
+  pub entered-but : AllStillSee old new → memtable_bytes new ≤ memtable_bytes old → (HaveOneVersion old → HaveOneVersion new) → (AreInUse old → AreInUse new) → KeepsPins old new → cache_snapshots new ≤ cache_snapshots old + 1 → LeavesBut s old new
+  entered-but seen bytes one used pins snapshots =
       let c = entered-counts in
       record {
-        chain = entered-chain;
-        there = entered-here;
-        cached = refl;
-        fresh = λ on. subst (Pins s.pin) e.opened.vacant (left.seen.there s on);
         memtables = λ id k there kind. (let t = left.memtables id k there kind in here-or-beside s.chain id
             (λ same. absurd (none-is-none k (sym (ap (chain_at told) same ∙ e.opened.vacant) ∙ t)))
             (λ ne. entered-beside id ne ∙ t));
@@ -139,7 +142,16 @@ module _ (S : ℕ) (key : List ℕ) (pt : Option Tomb) (statics : Row) (phase : 
         bytes = bytes;
         one = one;
         used = λ _. used;
+        pins = pins;
+        snapshots = snapshots;
       }
+
+  -- its chain was not there
+  pub entered-fresh : HasPin old s.chain s.pin → ⊥
+  entered-fresh on = subst (Pins s.pin) e.opened.vacant (left.seen.there s on)
+
+  pub entered-apart : (pin : ℕ) → HasCacheSnapshot old s.chain pin → ⊥
+  entered-apart pin h = none-is-none (left.pins s.chain pin h).chain (sym e.opened.vacant ∙ (left.pins s.chain pin h).there)
 
   -- its static row is known
   pub entered-statics : IsTrue (has_flag Cache (static_states first.chain.versions)) → KnowsStaticRow new s
@@ -174,16 +186,16 @@ module _ (S : ℕ) (old new : Memory) (range : AreCountsInRange old.counts) (out
 -- ---- memory is refused
 
 pub refused-rest : (S : ℕ) (pt : Option Tomb) (statics : Row) (phase : ℕ) (old new : Memory) → IsEnterRefused S pt statics phase old new → ((made : Memory) → IsRoomMade S old made → LeavesRest old made) → AllStillSee old new →
-    memtable_bytes new ≤ memtable_bytes old → (HaveOneVersion old → HaveOneVersion new) → (AreInUse old → AreInUse new) → LeavesRest old new
-refused-rest S pt statics phase old new (inl same) make seen bytes one used = subst (LeavesRest old) (sym same) (rest-none old)
-refused-rest S pt statics phase old new (inr (made, room, inl slots)) make seen bytes one used =
+    memtable_bytes new ≤ memtable_bytes old → (HaveOneVersion old → HaveOneVersion new) → (AreInUse old → AreInUse new) → KeepsPins old new → cache_snapshots new ≤ cache_snapshots old → LeavesRest old new
+refused-rest S pt statics phase old new (inl same) make seen bytes one used pins snapshots = subst (LeavesRest old) (sym same) (rest-none old)
+refused-rest S pt statics phase old new (inr (made, room, inl slots)) make seen bytes one used pins snapshots =
     let told = with_dropped [] made in
     let evicted : new.counts.evicted ≡ told.counts.evicted = ap (λ (m : Memory). m.counts.evicted) slots.same in
     let skipped : new.counts.skipped ≡ told.counts.skipped = ap (λ (m : Memory). m.counts.skipped) slots.same in
     let moved : new.region.moved ≡ told.region.moved = slots.region.moved in
     rest-then old told new (rest-then old made told (make made room) (rest-told [] made))
     (rest-same told new (ap (λ (m : Memory). m.chains) slots.same) (ap (λ (m : Memory). m.recency) slots.same) (ap length slots.region.usages) (record { evicted = omega (arith, evicted); moved = omega (arith, moved); skipped = omega (arith, skipped) }))
-refused-rest S pt statics phase old new (inr (made, room, inr (id, o))) make seen bytes one used =
+refused-rest S pt statics phase old new (inr (made, room, inr (id, o))) make seen bytes one used pins snapshots =
     let told = with_dropped [] made in
     let left = rest-then old made told (make made room) (rest-told [] made) in
     let evicted : new.counts.evicted ≡ told.counts.evicted = ap (λ c. c.evicted) o.counts in
@@ -198,4 +210,6 @@ refused-rest S pt statics phase old new (inr (made, room, inr (id, o))) make see
       bytes = bytes;
       one = one;
       used = λ _. used;
+      pins = pins;
+      snapshots = snapshots;
     }

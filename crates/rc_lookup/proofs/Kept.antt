@@ -31,7 +31,7 @@ use Rattle.rc_core.specs.Version.{Version}
 use Rattle.rc_row_cache.specs.Footprint.{AreInUse}
 use Rattle.rc_lookup.specs.Known.{IsChainKnown, IsPartitionKnown}
 use Rattle.rc_lookup.specs.calls.Known.{IsSnapKnown}
-use Rattle.rc_lookup.specs.Looked.{IsPartitionFound, IsLookedUp, IsStreamSaying, IsUnread}
+use Rattle.rc_lookup.specs.Looked.{IsPartitionFound, IsLookedUp, IsStill, IsStreamSaying, IsUnread}
 use Rattle.rc_lookup.specs.Staying.{IsStillThere}
 use Rattle.rc_lookup.specs.calls.Reading.{IsHeadSaid, without_snap}
 
@@ -224,9 +224,11 @@ module _ (s : Snap) (old mid : Memory) (taken : IsSnapshotTaken old mid s.chain 
 
   pub looked : IsLookedUp old new
   looked = record {
-    region = subst (SameObjects old.region) (sym (ap (λ (m : Memory). m.region) taken.now)) (unchanged old.region);
-    counts = ap (λ (m : Memory). m.counts) taken.now;
-    memtables = memtable;
+    still = record {
+      region = subst (SameObjects old.region) (sym (ap (λ (m : Memory). m.region) taken.now)) (unchanged old.region);
+      counts = ap (λ (m : Memory). m.counts) taken.now;
+      memtables = memtable;
+    };
     snapshots = record { alike = alike; none_more = none-more };
   }
 
@@ -234,8 +236,11 @@ module _ (s : Snap) (old mid : Memory) (taken : IsSnapshotTaken old mid s.chain 
   unread = record { region = ap (λ (m : Memory). m.region) taken.now; recency = ap (λ (m : Memory). m.recency) taken.now }
 
 -- numbers that were told change nothing of this
+pub told-still : (old now : Memory) → IsStill (with_dropped [] old) now → IsStill old now
+told-still old now a = record { region = a.region; counts = a.counts; memtables = a.memtables }
+
 pub told-looked : (old now : Memory) → IsLookedUp (with_dropped [] old) now → IsLookedUp old now
-told-looked old now a = record { region = a.region; counts = a.counts; memtables = a.memtables; snapshots = record { alike = λ s on. (let x = a.snapshots.alike s on in record { pin = x.pin; versions = x.versions; kind = x.kind }); none_more = a.snapshots.none_more } }
+told-looked old now a = record { still = told-still old now a.still; snapshots = record { alike = λ s on. (let x = a.snapshots.alike s on in record { pin = x.pin; versions = x.versions; kind = x.kind }); none_more = a.snapshots.none_more } }
 
 pub told-found : (key : List ℕ) (entries : List (List ℕ × ℕ)) (below : Below) (old : Memory) (t : Stream) → IsPartitionFound key entries below (with_dropped [] old) t → IsPartitionFound key entries below old t
 told-found key entries below old t a = record { chain = a.chain; kept = a.kept; newest = a.newest; entry = a.entry; there = a.there; cached = a.cached; last = a.last; says = a.says }
@@ -275,7 +280,7 @@ pub same-source : (writes : List Mutation) → SameSource writes writes
 same-source writes = record { head = refl; statics = refl; clustered = λ x. refl }
 
 pub looked-none : (old : Memory) → IsLookedUp old old
-looked-none old = record { region = unchanged old.region; counts = refl; memtables = λ id k e kind. e; snapshots = record { alike = λ s on. record { pin = on; versions = refl; kind = refl }; none_more = λ s on. on } }
+looked-none old = record { still = record { region = unchanged old.region; counts = refl; memtables = λ id k e kind. e }; snapshots = record { alike = λ s on. record { pin = on; versions = refl; kind = refl }; none_more = λ s on. on } }
 
 -- its chain is there still, once it is taken back
 pub still-there : (s : Snap) (m : Memory) → HasCacheSnapshot m s.chain s.pin → HasChain (without_snap s m) s.chain

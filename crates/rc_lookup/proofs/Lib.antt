@@ -16,6 +16,7 @@ mod Leaving
 mod Recent
 mod Walked
 mod Reordered
+mod Holding
 mod Limits
 mod Taken
 mod Losing

@@ -36,6 +36,12 @@ looked-loses S old mid new s taken back =
     (loses-after S 0 (with_dropped [] old) mid new (loses-taken S s.chain s.pin s.phase (with_dropped [] old) mid taken)
     (loses-after S 0 mid (without_snap s mid) new (back-loses S s mid) (reordered-loses S (without_snap s mid) new back)))
 
+-- where the snapshot stays
+pub kept-loses : (S : ℕ) (old mid new : Memory) (s : Snap) → IsSnapshotTaken (with_dropped [] old) mid s.chain s.pin s.phase → IsReordered mid new → LosesWhereCrowded S 0 old new
+kept-loses S old mid new s taken left =
+    loses-after S 0 old (with_dropped [] old) new (told-loses S old)
+    (loses-after S 0 (with_dropped [] old) mid new (loses-taken S s.chain s.pin s.phase (with_dropped [] old) mid taken) (reordered-loses S mid new left))
+
 -- ---- a chain is let go
 
 there_or_not : (o : Option KeptChain) → ((k : KeptChain) × (o ≡ Some k)) ⊎ (o ≡ None)

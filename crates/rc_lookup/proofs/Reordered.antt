@@ -10,8 +10,8 @@ use Rattle.rc_memory.specs.Memory.{HasPin, Member, Memory, chain_at}
 use Rattle.rc_row_cache.specs.Entries.{AreEntries}
 use Rattle.rc_stream.specs.Stream.{Stream}
 use Rattle.rc_snapshots.specs.Seeing.{StillSees}
-use Rattle.rc_row_cache.specs.Footprint.{HaveOneVersion, memtable_bytes}
-use Rattle.rc_lookup.specs.Looked.{IsLookedUp, IsUnread}
+use Rattle.rc_row_cache.specs.Footprint.{HaveOneVersion, cache_snapshots, memtable_bytes}
+use Rattle.rc_lookup.specs.Looked.{IsLookedUp, IsStill, IsUnread}
 use Rattle.rc_lookup.specs.Rest.{LeavesRest}
 use Rattle.rc_lookup.specs.Touched.{IsMadeRecent, is_beside}
 use Rattle.rc_lookup.specs.calls.Touched.{IsChainTouched, IsReordered}
@@ -66,14 +66,22 @@ module _ (old new : Memory) (r : IsReordered old new) where
     one = λ h. subst HaveOneVersion (sym r.same) h;
     used = λ h u id k e idle. u id k (subst (λ (m : Memory). chain_at m id ≡ Some k) r.same e)
         (record { cached = idle.cached; settled = idle.settled; unpinned = idle.unpinned; unlisted = λ j x on. idle.unlisted j x (r.kept (member_at id j x) on) });
+    pins = λ id pin h. record { chain = h.chain; number = h.number; there = subst (λ (m : Memory). chain_at m id ≡ Some h.chain) (sym r.same) h.there; pinned = h.pinned; cached = h.cached };
+    snapshots = (let e : cache_snapshots new ≡ cache_snapshots old = ap cache_snapshots r.same in omega (arith, e));
+  }
+
+  -- what did not move
+  pub still-moved : (before : Memory) → IsStill before old → IsStill before new
+  still-moved before l = record {
+    region = objects-trans before.region old.region new.region l.region r.objects;
+    counts = ap (λ (m : Memory). m.counts) r.same ∙ l.counts;
+    memtables = λ id k e kind. subst (λ (m : Memory). chain_at m id ≡ Some k) (sym r.same) (l.memtables id k e kind);
   }
 
   -- what is looked up
   pub looked-reordered : (before : Memory) → IsLookedUp before old → IsLookedUp before new
   looked-reordered before l = record {
-    region = objects-trans before.region old.region new.region l.region r.objects;
-    counts = ap (λ (m : Memory). m.counts) r.same ∙ l.counts;
-    memtables = λ id k e kind. subst (λ (m : Memory). chain_at m id ≡ Some k) (sym r.same) (l.memtables id k e kind);
+    still = still-moved before l.still;
     snapshots = record {
       alike = λ s on. (let x = l.snapshots.alike s on in subst (StillSees s before) (sym r.same) (record { pin = x.pin; versions = x.versions; kind = x.kind }));
       none_more = λ s on. l.snapshots.none_more s (subst (λ (m : Memory). HasPin m s.chain s.pin) r.same on);

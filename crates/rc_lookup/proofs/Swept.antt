@@ -2,7 +2,6 @@
 use Rattle.std.proofs.Common.{inl, inr, ◌≡◌, ◌≢◌, ◌⊎◌, ◌≤◌, ◌+◌, ℕ, Bool, true, false, List, [], ◌∷◌, Option, Some, None, IsSome, length, refl, sym, ap, ◌∙◌, subst, arith}
 use Rattle.std.specs.Prelude.{Contains, IsSomeAnd, take}
 use Rattle.lsa_pool.specs.laws.Usages.{decided}
-use Rattle.rc_position.specs.declared.positions.Pos.{Pos}
 use Rattle.rc_core.specs.declared.entries.ChainKind.TheVariants.{Cache, Memtable}
 use Rattle.rc_position.specs.Position.{Head}
 use Rattle.rc_core.specs.Chains.{IsPinned, at_place}
@@ -16,23 +15,23 @@ use Rattle.rc_memory.specs.Memory.{HasPin, KeptChain, Member, Memory, chain_at, 
 use Rattle.rc_memory.specs.laws.Places.{same_some}
 use Rattle.rc_chain.specs.declared.chains.Snap.{Snap}
 use Rattle.rc_cached.specs.LetGo.{NoCountFell}
+use Rattle.rc_cached.specs.NoMore.{counts-then}
 use Rattle.rc_cached.specs.Lives.{IsChainDropped, IsIdle}
 use Rattle.rc_cached.specs.Filling.{MayFill}
-use Rattle.rc_cursor.specs.Snapshots.{Knows, kind_in, kind_seen, versions_in, versions_seen, versions_upto}
-use Rattle.rc_cacheread.specs.Passing.{IsKnownOver}
+use Rattle.rc_cursor.specs.Snapshots.{kind_in, kind_seen, versions_in, versions_seen, versions_upto}
 use Rattle.rc_row_cache.specs.Fillers.{losses}
 use Rattle.rc_cached.specs.Stands.{HasCacheSnapshot}
 use Rattle.rc_snapshots.specs.Seeing.{AllStillSee, HasSnap, StillSees}
-use Rattle.rc_snapshots.specs.laws.Seeing.{seen-then, snap-then}
-use Rattle.rc_row_cache.specs.Footprint.{AreInUse, HaveOneVersion, memtable_bytes}
-use Rattle.rc_snapshots.specs.Streams.{first_position}
+use Rattle.rc_snapshots.specs.laws.Seeing.{snap-then}
+use Rattle.rc_row_cache.specs.Footprint.{AreInUse, HaveOneVersion, cache_snapshots, memtable_bytes}
 use Rattle.rc_lookup.specs.Known.{IsChainKnown, IsPartitionKnown}
-use Rattle.rc_lookup.specs.Rest.{LeavesRest}
-use Rattle.rc_lookup.specs.calls.Entering.{KnowsStaticRow, LeavesBut}
+use Rattle.rc_lookup.specs.Rest.{LeavesBut, LeavesRest}
+use Rattle.rc_lookup.specs.calls.Entering.{IsHeldWhole}
+use Rattle.rc_lookup.specs.calls.Known.{IsSnapKnown}
 use Rattle.rc_lookup.specs.calls.Reading.{without_snap}
-use Rattle.rc_lookup.proofs.Kept.{here-or-beside}
+use Rattle.rc_lookup.proofs.Kept.{has-pin, here-or-beside}
 use Rattle.rc_lookup.proofs.Numbered.{chain-beside, chain-here, changed-beside, changed-now}
-use Rattle.rc_lookup.proofs.Rest.{Pins, counts-then, some-of}
+use Rattle.rc_lookup.proofs.Rest.{KeepsPins, Pins, some-of}
 
 -- ---- whether a chain is to be dropped
 
@@ -72,24 +71,7 @@ none-some : (o : Option ℕ) → o ≡ None → IsSome o → ⊥
 none-some None e on = cc
 none-some (Some j) e on = cc
 
--- ---- one more snapshot is left, and others
-
--- what is left but for a snapshot, and then all else
-pub but-then : (s : Snap) (old mid new : Memory) → LeavesBut s old mid → LeavesRest mid new → HasCacheSnapshot new s.chain s.pin → LeavesBut s old new
-but-then s old mid new a b h = record {
-  chain = h.chain;
-  there = h.there;
-  cached = h.cached;
-  fresh = a.fresh;
-  memtables = λ id k e kind. b.memtables id k (a.memtables id k e kind) kind;
-  seen = seen-then old mid new a.seen b.seen;
-  none_more = λ t on. a.none_more t (b.none_more t on);
-  segments = b.segments ∙ a.segments;
-  counts = counts-then old mid new a.counts b.counts;
-  bytes = omega (arith, a.bytes, b.bytes);
-  one = λ h. b.one (a.one h);
-  used = λ h u. b.used (a.one h) (a.used h u);
-}
+-- ---- what is left
 
 -- what is left where a snapshot is taken back, and where a chain is gone
 pub record SweepLaws : Type 0 where
@@ -99,6 +81,10 @@ pub record SweepLaws : Type 0 where
   pub one_gone : (id : ℕ) (list : List Member) (old new : Memory) → IsChainDropped id list old new → HaveOneVersion old → HaveOneVersion new
   pub swept : (s : Snap) (old new : Memory) (k : KeptChain) → chain_at (without_snap s old) s.chain ≡ Some k → (IsIdle (without_snap s old) s.chain k.chain → IsChainDropped s.chain old.recency (without_snap s old) new) →
       ((IsIdle (without_snap s old) s.chain k.chain → ⊥) → new ≡ without_snap s old) → AreInUse old → AreInUse new
+  pub held_back : (s : Snap) (m : Memory) (id pin : ℕ) → (id ≡ s.chain → pin ≡ s.pin → ⊥) → HasCacheSnapshot m id pin → HasCacheSnapshot (without_snap s m) id pin
+  pub held_gone : (id : ℕ) (list : List Member) (old new : Memory) → IsChainDropped id list old new → ((k : KeptChain) → chain_at old id ≡ Some k → AreFree k.chain.pins) → KeepsPins old new
+  pub one_less : (s : Snap) (m : Memory) → HasCacheSnapshot m s.chain s.pin → cache_snapshots (without_snap s m) + 1 ≤ cache_snapshots m
+  pub snapshots_gone : (id : ℕ) (list : List Member) (old new : Memory) → IsChainDropped id list old new → cache_snapshots new ≤ cache_snapshots old
 
 module _ (s : Snap) (x new : Memory) (k : KeptChain) (there : chain_at x s.chain ≡ Some k) (cached : k.chain.kind ≡ Cache) where
   abbrev pub back : Memory
@@ -151,7 +137,7 @@ module _ (s : Snap) (x new : Memory) (k : KeptChain) (there : chain_at x s.chain
           (subst (Pins t.pin) (sym (ap (chain_at x) same ∙ there)) (subst (λ (o : Option ℕ). IsSome o) (pin-kept s.pin t.pin k.chain.pins ne) now), ne)
     ]
 
-    module _ (laws : SweepLaws) (m : Memory) (b : LeavesBut s m x) where
+    module _ (laws : SweepLaws) (m : Memory) (b : LeavesBut s m x) (fresh : HasPin m s.chain s.pin → ⊥) (own : HasCacheSnapshot x s.chain s.pin) where
       its-own : (t : Snap) → HasSnap x t → t.chain ≡ s.chain → ⊥
       its-own t h same = (let clash : Memtable ≡ Cache = sym h.kind ∙ ap kind_in (ap (chain_at x) same ∙ there) ∙ cached in cc clash)
 
@@ -159,7 +145,7 @@ module _ (s : Snap) (x new : Memory) (k : KeptChain) (there : chain_at x s.chain
       seen-still = record {
         see = λ t h. (let a = b.seen.see t h in let then_ = snap-then m x t h a in let b_ = beside-sees t then_.pin (its-own t then_) in record { pin = b_.pin; versions = b_.versions ∙ a.versions; kind = b_.kind ∙ a.kind });
         there = λ t on. here-or-beside s.chain t.chain
-            (λ same. mine-there t (b.seen.there t on) same (λ pin. b.fresh (subst (λ id. HasPin m id s.pin) same (subst (λ p. HasPin m t.chain p) pin on))))
+            (λ same. mine-there t (b.seen.there t on) same (λ pin. fresh (subst (λ id. HasPin m id s.pin) same (subst (λ p. HasPin m t.chain p) pin on))))
             (λ ne. (beside-sees t (b.seen.there t on) ne).pin);
       }
 
@@ -167,6 +153,15 @@ module _ (s : Snap) (x new : Memory) (k : KeptChain) (there : chain_at x s.chain
       none-more-then t on = here-or-beside s.chain t.chain
           (λ same. (let was = mine-was t on same in elim (b.none_more t was.0) [ inl old ↦ old | inr mine ↦ absurd (was.1 mine.1) ]))
           (λ ne. elim (b.none_more t (subst (Pins t.pin) (swept-beside t.chain ne) on)) [ inl old ↦ old | inr mine ↦ absurd (ne mine.0) ])
+
+      held-still : KeepsPins m new
+      held-still id pin h =
+          let x_held = b.pins id pin h in
+          let back_held = laws.held_back s x id pin (λ chain same. fresh (subst (λ i. HasPin m i s.pin) chain (subst (λ p. HasPin m id p) same (has-pin m id pin h)))) x_held in
+          elim swept [
+            | inl gone ↦ laws.held_gone s.chain x.recency back new gone.1 (λ q e. subst (λ (c : KeptChain). AreFree c.chain.pins) (same_some left_chain q (sym back-there ∙ e)) gone.0.unpinned) id pin back_held
+            | inr kept ↦ subst (λ (y : Memory). HasCacheSnapshot y id pin) (sym kept.1) back_held
+          ]
 
       -- all else is left
       pub rest-swept : LeavesRest m new
@@ -189,6 +184,11 @@ module _ (s : Snap) (x new : Memory) (k : KeptChain) (there : chain_at x s.chain
             (λ idle. elim swept [ inl gone ↦ gone.1 | inr kept ↦ absurd (kept.0 idle) ])
             (λ busy. elim swept [ inl gone ↦ absurd (busy gone.0) | inr kept ↦ kept.1 ])
             (b.used h u);
+        pins = held-still;
+        snapshots = (let one = laws.one_less s x own in let more = b.snapshots in elim swept [
+          | inl gone ↦ (let less = laws.snapshots_gone s.chain x.recency back new gone.1 in omega (arith, one, more, less))
+          | inr kept ↦ (let same : cache_snapshots new ≡ cache_snapshots back = ap cache_snapshots kept.1 in omega (arith, one, more, same))
+        ]);
       }
 
 -- ---- all of its partition is known
@@ -197,19 +197,24 @@ take-all : (vs : List Version) → take (length vs) vs ≡ vs
 take-all [] = refl
 take-all (v ∷ vs) = ap (λ us. v ∷ us) (take-all vs)
 
+-- what is known to a snapshot that may be filled is to its chain, of which it pins the newest version
+pub held-known : (s : Snap) (x : Memory) (h : HasCacheSnapshot x s.chain s.pin) → IsSnapKnown x s → MayFill x s.chain s.pin → IsPartitionKnown h.chain.chain.kind h.chain.chain.versions
+held-known s x h known may =
+    let fills : MayPopulate (at_place Head h.chain.chain) h.number =
+    subst (λ (o : Option ℕ). IsSomeAnd o (MayPopulate (at_place Head h.chain.chain))) h.pinned (subst (λ (o : Option KeptChain). IsSomeAnd o (λ q. IsSomeAnd (pin_at q.chain.pins s.pin) (MayPopulate (at_place Head q.chain)))) h.there may) in
+    let versions : versions_seen x s ≡ h.chain.chain.versions =
+    ap (λ o. versions_in o s.pin) h.there ∙ ap (versions_upto h.chain.chain.versions) h.pinned ∙ ap (λ n. take n h.chain.chain.versions) fills.newest ∙ take-all h.chain.chain.versions in
+    let kind : kind_seen x s ≡ h.chain.chain.kind = ap kind_in h.there in
+    subst (λ q. IsPartitionKnown q h.chain.chain.versions) kind (subst (IsPartitionKnown (kind_seen x s)) versions known)
+
+pub chain-held : (s : Snap) (x : Memory) → HasCacheSnapshot x s.chain s.pin → IsSnapKnown x s → MayFill x s.chain s.pin → IsChainKnown x s.chain
+chain-held s x h known may = subst (λ (o : Option KeptChain). IsSomeAnd o (λ q. IsPartitionKnown q.chain.kind q.chain.versions)) (sym h.there) (held-known s x h known may)
+
 -- where all of it is known to a snapshot that may be filled, and something of the chain is listed, the chain stays, to whose newest version it is known
-pub known-swept : (s : Snap) (x new : Memory) (h : HasCacheSnapshot x s.chain s.pin) → IsSweptThen s x new h.chain h.there h.cached → MayFill x s.chain s.pin → KnowsStaticRow x s → IsKnownOver (Knows x s) first_position end_position →
-    (j : ℕ) (at : Option Pos) → Contains x.recency (member_at s.chain j at) → IsChainKnown new s.chain
-known-swept s x new h swept may statics over j at on = elim swept [
-  | inl gone ↦ absurd (gone.0.unlisted j at on)
+pub known-swept : (s : Snap) (x new : Memory) (h : HasCacheSnapshot x s.chain s.pin) → IsSweptThen s x new h.chain h.there h.cached → IsHeldWhole x s → IsChainKnown new s.chain
+known-swept s x new h swept w = elim swept [
+  | inl gone ↦ absurd (gone.0.unlisted 0 (Some end_position) w.listed)
   | inr kept ↦
-      let fills : MayPopulate (at_place Head h.chain.chain) h.number =
-      subst (λ (o : Option ℕ). IsSomeAnd o (MayPopulate (at_place Head h.chain.chain))) h.pinned (subst (λ (o : Option KeptChain). IsSomeAnd o (λ q. IsSomeAnd (pin_at q.chain.pins s.pin) (MayPopulate (at_place Head q.chain)))) h.there may) in
-      let versions : versions_seen x s ≡ h.chain.chain.versions =
-      ap (λ o. versions_in o s.pin) h.there ∙ ap (versions_upto h.chain.chain.versions) h.pinned ∙ ap (λ n. take n h.chain.chain.versions) fills.newest ∙ take-all h.chain.chain.versions in
-      let kind : kind_seen x s ≡ h.chain.chain.kind = ap kind_in h.there in
-      let seen : IsPartitionKnown (kind_seen x s) (versions_seen x s) = record { each = over; static_row = statics } in
-      let all : IsPartitionKnown h.chain.chain.kind h.chain.chain.versions = subst (λ q. IsPartitionKnown q h.chain.chain.versions) kind (subst (IsPartitionKnown (kind_seen x s)) versions seen) in
       let there : chain_at new s.chain ≡ Some (without_snapshot s.pin h.chain) = ap (λ (m : Memory). chain_at m s.chain) kept.1 ∙ back-there s x new h.chain h.there h.cached in
-      subst (λ (o : Option KeptChain). IsSomeAnd o (λ q. IsPartitionKnown q.chain.kind q.chain.versions)) (sym there) all
+      subst (λ (o : Option KeptChain). IsSomeAnd o (λ q. IsPartitionKnown q.chain.kind q.chain.versions)) (sym there) (held-known s x h w.known w.may)
 ]

@@ -21,7 +21,7 @@ use Rattle.rc_cached.specs.Coming.{AreCountsInRange}
 use Rattle.rc_cached.specs.declared.fillers.StreamFiller.{StreamFiller}
 use Rattle.rc_cached.specs.Fillers.{IsStreamFill}
 use Rattle.rc_row_cache.specs.Saying.{AreFillsDone}
-use Rattle.rc_row_cache.specs.Footprint.{AreInUse, HaveOneVersion, memtable_bytes}
+use Rattle.rc_row_cache.specs.Footprint.{AreInUse, HaveOneVersion, cache_snapshots, memtable_bytes}
 use Rattle.rc_lookup.specs.Rest.{LeavesRest}
 use Rattle.rc_lookup.specs.calls.Entering.{IsFilledThrough, KnowsStaticRow}
 use Rattle.rc_lookup.specs.calls.Filling.{OneFill}
@@ -30,7 +30,8 @@ use Rattle.rc_lookup.specs.laws.Lost.{raised-low, raised-top}
 use Rattle.rc_lookup.proofs.Counted.{filled-losses, room-leaves, room-none, room-raised, room-range, skip-losses}
 use Rattle.rc_lookup.proofs.Fills.{between, many-many}
 use Rattle.rc_lookup.proofs.Numbered.{changed-beside, none-is-none, there-or-not}
-use Rattle.rc_lookup.proofs.Rest.{NoMorePins, no-count-fell, none-more, rest-none, rest-then}
+use Rattle.rc_lookup.specs.laws.Rest.{no-count-fell, rest-none, rest-then}
+use Rattle.rc_lookup.proofs.Rest.{KeepsPins, NoMorePins, none-more}
 
 -- what one fill leaves, and what many do
 pub record FillLaws : Type 0 where
@@ -44,6 +45,8 @@ pub record FillLaws : Type 0 where
   pub bytes : (S id pin : ℕ) (old new : Memory) → AreFillsDone S id pin old new → memtable_bytes new ≤ memtable_bytes old
   pub one : (S id pin : ℕ) (old new : Memory) → AreFillsDone S id pin old new → HaveOneVersion old → HaveOneVersion new
   pub used : (S id pin : ℕ) (old new : Memory) → AreFillsDone S id pin old new → AreInUse old → AreInUse new
+  pub held : (S id pin : ℕ) (old new : Memory) → AreFillsDone S id pin old new → KeepsPins old new
+  pub snapshots : (S id pin : ℕ) (old new : Memory) → AreFillsDone S id pin old new → cache_snapshots new ≤ cache_snapshots old
 
 -- ---- counts
 
@@ -180,6 +183,8 @@ module _ (S : ℕ) where
             bytes = laws.bytes S s.chain s.pin m n all;
             one = laws.one S s.chain s.pin m n all;
             used = λ _. laws.used S s.chain s.pin m n all;
+            pins = laws.held S s.chain s.pin m n all;
+            snapshots = laws.snapshots S s.chain s.pin m n all;
           };
           told = λ id k. laws.told S fi gi m n id k did;
           absent = λ id. laws.absent S fi gi m n id did;

@@ -1,5 +1,6 @@
 pub mod Known
 pub mod Rest
+pub mod Held
 pub mod Touched
 pub mod Looked
 pub mod Staying
@@ -27,3 +28,4 @@ pub use Rattle.rc_cached.specs.Partitions
 pub use Rattle.rc_cached.specs.NoMore
 pub use Rattle.rc_cached.specs.Evictions
 pub use Rattle.rc_cached.specs.Lives
+pub use Rattle.rc_cached.specs.Stands

@@ -2,6 +2,7 @@
 --     IsCacheOver         the cache says what lies below it, which fits a schema
 --     IsStreamSaying      the stream of what writes say
 --     IsPartitionFound    a partition that was found
+--     IsStill             no object moved, came or went, and no chain of a memtable changed
 --     IsLookedUp          what a look-up leaves of the chains
 --     IsUnread            and of the recency list, where it gives nothing
 use Rattle.std.specs.Prelude.{◌≡◌, ℕ, suc, All, IsTrue, List, [], ◌∷◌, Some, length}
@@ -42,11 +43,15 @@ pub record IsPartitionFound (key : List ℕ) (entries : List (List ℕ × ℕ)) 
   pub last : suc newest ≡ length kept.chain.versions
   pub says : IsStreamSaying (below chain (phase_at kept.chain.versions newest)) t
 
--- no object moved, came or went, and no chain of a memtable changed; the snapshots are those that were there, and see what they saw
-pub record IsLookedUp (old new : Memory) : Type 0 where
+-- no object moved, came or went, and no chain of a memtable changed; nothing was counted
+pub record IsStill (old new : Memory) : Type 0 where
   pub region : SameObjects old.region new.region
   pub counts : new.counts ≡ old.counts
   pub memtables : (id : ℕ) (k : KeptChain) → chain_at old id ≡ Some k → k.chain.kind ≡ Memtable → chain_at new id ≡ Some k
+
+-- so it is, and the snapshots are those that were there, and see what they saw
+pub record IsLookedUp (old new : Memory) : Type 0 where
+  pub still : IsStill old new
   pub snapshots : AreSameSnapshots old new
 
 -- nor did a place in the recency list change

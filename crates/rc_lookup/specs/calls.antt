@@ -1,8 +1,8 @@
 -- What inner functions promise each other.
+pub mod Known
 pub mod Entering
 pub mod Filling
 pub mod Reading
 pub mod Recent
 pub mod Words
-pub mod Known
 pub mod Touched

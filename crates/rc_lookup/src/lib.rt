@@ -11,9 +11,9 @@ mod populating;
 mod touching;
 
 pub use keeping::keep_recent;
-pub use looking::lookup;
-pub use populating::populate;
+pub use looking::{lookup, take_known};
+pub use populating::{populate, take_populated};
 pub use rc_row_cache::{
-    Chains, RowCache, Unstored, entries_laws, evict_laws, footprint, laws as row_cache_laws,
+    Chains, RowCache, Snap, Unstored, entries_laws, evict_laws, footprint, laws as row_cache_laws,
     snapshots_laws, unstored_laws,
 };

@@ -1,12 +1,11 @@
 //! What was read of a partition is put into the row cache, whole.
-ghost use Rattle.std.specs.Prelude.{◌≡◌, ◌*◌, ◌/◌, ◌≤◌, ◌∷◌, ℕ, [], None, Some, List as Sequence, All, Contains, IsSomeAnd, IsTrue, OnOk};
+ghost use Rattle.std.specs.Prelude.{◌≡◌, ◌*◌, ◌/◌, ◌≤◌, ◌∷◌, ℕ, [], None, Some, List as Sequence, All, Contains, IfNone, IfOk, IfSome, IsSome, IsSomeAnd, IsTrue, MatchOption, OnErr, OnOk};
 ghost use Rattle.rc_schema.specs.SchemaValue.{SchemaValue, is_schema};
 ghost use Rattle.rc_mutation.specs.declared.mutations.Mutation.{Mutation as Change};
 ghost use Rattle.rc_mutation.specs.Source.{SameSource};
 ghost use Rattle.rc_writes.specs.Allowed.{ChangeFits};
 ghost use Rattle.rc_core.specs.Version.{end_position};
-ghost use Rattle.rc_memory.specs.Changes.{member_at};
-ghost use Rattle.rc_memory.specs.Memory.{Memory, chain_at};
+ghost use Rattle.rc_memory.specs.Memory.{HasPin, Memory, chain_at};
 ghost use Rattle.rc_cached.specs.Filling.{MayFill};
 ghost use Rattle.rc_row_cache.specs.Found.{entry_number};
 ghost use Rattle.rc_row_cache.specs.Entries.{AreEntries, LeavesCached};
@@ -20,11 +19,12 @@ ghost use Rattle.rc_cacheread.specs.Passing.{IsKnownOver};
 ghost use Rattle.rc_snapshots.specs.Streams.{first_position};
 ghost use Rattle.rc_row_cache.specs.Calls.{below_entry};
 ghost use Rattle.rc_row_cache.specs.Saying.{Below, CacheSays, phase_pinned};
+ghost use Rattle.rc_lookup.specs.Held.{IsHeldOf};
 ghost use Rattle.rc_lookup.specs.Known.{IsChainKnown};
-ghost use Rattle.rc_lookup.specs.Rest.{LeavesRest};
+ghost use Rattle.rc_lookup.specs.Rest.{LeavesBut, LeavesRest};
 ghost use Rattle.rc_lookup.specs.Staying.{IsEntryStill};
 ghost use Rattle.rc_lookup.specs.Looked.{IsCacheOver};
-ghost use Rattle.rc_lookup.specs.calls.Entering.{IsFilledThrough, KnowsStaticRow, LeavesBut};
+ghost use Rattle.rc_lookup.specs.calls.Entering.{IsFilledThrough, IsHeldWhole, IsPartlyHeld};
 
 use crate::filling::fill_all;
 use rc_cached::StreamFiller;
@@ -38,7 +38,7 @@ use rc_row_cache::evict_laws::a_chain_that_is_dropped_had_its_ends_alone;
 use rc_row_cache::filler_laws::{a_fill_spares_memtables_and_readers, a_fill_takes_no_segment};
 use rc_row_cache::footprint::{
     chains_of_the_cache_stay_in_use, each_chain_of_the_cache_has_one_version,
-    what_calls_leave_of_memtables,
+    what_calls_leave_of_memtables, what_calls_leave_of_snapshots,
 };
 use rc_row_cache::laws::{
     a_snapshot_stands_for_what_lies_below, each_snapshot_pins_what_it_pinned,
@@ -66,6 +66,7 @@ fn forget_entry<const S: usize>(cache: &mut RowCache, chains: &mut Chains<S>, ke
     each_chain_of_the_cache_has_one_version();
     each_key_is_found();
     what_calls_leave_of_memtables();
+    what_calls_leave_of_snapshots();
     chains.known();
     cache.forget(chains, key);
     chains.known();
@@ -106,8 +107,10 @@ fn fill_read<const S: usize>(
     a_mutations_stream_reads_it();
     chains_of_the_cache_stay_in_use();
     each_chain_of_the_cache_has_one_version();
+    each_snapshot_pins_what_it_pinned();
     the_stream_of_a_mutation();
     what_calls_leave_of_memtables();
+    what_calls_leave_of_snapshots();
     counts_in_range(chains);
     read.holds_together();
     match read.fragments(alloc) {
@@ -119,24 +122,16 @@ fn fill_read<const S: usize>(
     }
 }
 
-// Fills what was read of a partition through the snapshot of its new chain, which is taken back then. The chain goes with it, where it has nothing that could be evicted. The only error is want of memory.
-fn fill_entry<const S: usize>(
-    alloc: Global,
-    chains: &mut Chains<S>,
-    snap: Snap,
-    read: &Mutation,
-) -> Result<(), AllocError>
-    requires roomy { 8952 ≤ 7 * S / 8 }
-    requires fits { (schema : SchemaValue) × ChangeFits schema read.now }
-    requires stands { (writes : Sequence Change) × StandsForWrites S chains.old snap.chain snap.pin writes × SameSource (read.now ∷ []) writes }
-    ensures rest { (before : Memory) → LeavesBut snap before chains.old → LeavesRest before chains.new }
-    ensures lost { losses chains.old ≤ losses chains.new }
-    ensures beside { NoneLost (losses chains.old) (losses chains.new) → (id : ℕ) → (id ≡ snap.chain → ⊥) → chain_at chains.new id ≡ chain_at chains.old id }
+// A snapshot of a chain of the cache is taken back. The chain goes with it, where it has nothing that could be evicted.
+fn give_up<const S: usize>(chains: &mut Chains<S>, snap: Snap)
+    requires { HasCacheSnapshot chains.old snap.chain snap.pin }
+    ensures rest { (before : Memory) → LeavesBut snap before chains.old → (HasPin before snap.chain snap.pin → ⊥) → LeavesRest before chains.new }
+    ensures lost { losses chains.new ≡ losses chains.old }
+    ensures beside { (id : ℕ) → (id ≡ snap.chain → ⊥) → chain_at chains.new id ≡ chain_at chains.old id }
     ensures cached { LeavesCached chains.old chains.new }
-    ensures says { (schema : SchemaValue) (below : Below) (h : HasCacheSnapshot chains.old snap.chain snap.pin) (writes : Sequence Change) → All (ChangeFits schema) writes → StandsForWrites S chains.old snap.chain snap.pin writes → SameSource (read.now ∷ []) writes → SameSource (below snap.chain (phase_pinned h)) writes →
-        CacheSays schema below chains.old → CacheSays schema below chains.new }
-    ensures loses { (schema : SchemaValue) → IsTrue (is_schema schema) → ChangeFits schema read.now → LosesWhereCrowded S 0 chains.old chains.new }
-    ensures known { OnOk result (MayFill chains.old snap.chain snap.pin → NoneLost (losses chains.old) (losses chains.new) → KnowsStaticRow chains.old snap → Contains chains.old.recency (member_at snap.chain 0 (Some end_position)) → IsChainKnown chains.new snap.chain) }
+    ensures says { (schema : SchemaValue) (below : Below) → CacheSays schema below chains.old → CacheSays schema below chains.new }
+    ensures loses { LosesWhereCrowded S 0 chains.old chains.new }
+    ensures known { IsHeldWhole chains.old snap → IsChainKnown chains.new snap.chain }
 {
     a_chain_that_is_dropped_had_its_ends_alone();
     chains_of_the_cache_stay_in_use();
@@ -144,34 +139,71 @@ fn fill_entry<const S: usize>(
     each_change_leaves_the_caches_chains();
     each_snapshot_pins_what_it_pinned();
     the_cache_says_what_lies_below();
-    the_cache_says_what_lies_below_after_fills();
     what_calls_leave_of_memtables();
+    what_calls_leave_of_snapshots();
     what_leaves_the_caches_chains_leaves_the_entries();
     let chain = snap.chain;
-    let filled = fill_read(alloc, chains, &snap, read);
-    chains.known();
     chains.release(snap);
     chains.known();
     chains.sweep(chain);
     chains.known();
-    filled
 }
 
-// Opens the entry of a partition that has none by what was read of it, and fills that. All chains have one phase, since no call of this crate gives one another. The only error is want of memory.
+// Fills what was read of a partition through the snapshot of its new chain. The only error is want of memory: then the snapshot is taken back, and the chain goes with it, where it has nothing that could be evicted.
+fn fill_held<const S: usize>(
+    alloc: Global,
+    chains: &mut Chains<S>,
+    snap: Snap,
+    read: &Mutation,
+) -> Result<Option<Snap>, AllocError>
+    requires roomy { 8952 ≤ 7 * S / 8 }
+    requires fits { (schema : SchemaValue) × ChangeFits schema read.now }
+    requires stands { (writes : Sequence Change) × StandsForWrites S chains.old snap.chain snap.pin writes × SameSource (read.now ∷ []) writes }
+    ensures some { IfOk result IsSome }
+    ensures through { IfOk result (λ o. IfSome o (λ s. (s ≡ snap) × IsFilledThrough S snap chains.old chains.new)) }
+    ensures whole { IfOk result (λ o. IfSome o (λ s. IsPartlyHeld chains.old snap → NoneLost (losses chains.old) (losses chains.new) → IsHeldWhole chains.new s)) }
+    ensures rest_err { OnErr result ((before : Memory) → LeavesBut snap before chains.old → (HasPin before snap.chain snap.pin → ⊥) → LeavesRest before chains.new) }
+    ensures lost { losses chains.old ≤ losses chains.new }
+    ensures beside { NoneLost (losses chains.old) (losses chains.new) → (id : ℕ) → (id ≡ snap.chain → ⊥) → chain_at chains.new id ≡ chain_at chains.old id }
+    ensures cached { LeavesCached chains.old chains.new }
+    ensures says { (schema : SchemaValue) (below : Below) (h : HasCacheSnapshot chains.old snap.chain snap.pin) (writes : Sequence Change) → All (ChangeFits schema) writes → StandsForWrites S chains.old snap.chain snap.pin writes → SameSource (read.now ∷ []) writes → SameSource (below snap.chain (phase_pinned h)) writes →
+        CacheSays schema below chains.old → CacheSays schema below chains.new }
+    ensures loses { (schema : SchemaValue) → IsTrue (is_schema schema) → ChangeFits schema read.now → LosesWhereCrowded S 0 chains.old chains.new }
+{
+    each_change_leaves_the_caches_chains();
+    the_cache_says_what_lies_below_after_fills();
+    what_leaves_the_caches_chains_leaves_the_entries();
+    let filled = fill_read(alloc, chains, &snap, read);
+    chains.known();
+    match filled {
+        Ok(()) => Ok(Some(snap)),
+        Err(error) => {
+            give_up(chains, snap);
+            Err(error)
+        }
+    }
+}
+
+// Opens the entry of a partition that has none by what was read of it, and fills that; gives the snapshot through which it was filled. All chains have one phase, since no call of this crate gives one another. The only error is want of memory.
 fn enter_read<const S: usize>(
     alloc: Global,
     cache: &mut RowCache,
     chains: &mut Chains<S>,
     key: &PartKey,
     read: &Mutation,
-) -> Result<(), AllocError>
+) -> Result<Option<Snap>, AllocError>
     requires entries { AreEntries cache.old.entries chains.old }
     requires absent { entry_number cache.old.entries key.now ≡ None }
     requires roomy { 8952 ≤ 7 * S / 8 }
     requires over { (schema : SchemaValue) × (below : Below) × IsCacheOver S schema below chains.old × ChangeFits schema read.now }
-    ensures known { OnOk result (NoneLost (losses chains.old) (losses chains.new) → IsSomeAnd (entry_number cache.new.entries key.now) (IsChainKnown chains.new)) }
+    ensures taken { IfOk result (λ o. IfSome o (IsHeldOf key.now cache.new.entries chains.old chains.new)) }
+    ensures apart { IfOk result (λ o. IfSome o (λ s. (pin : ℕ) → HasCacheSnapshot chains.old s.chain pin → ⊥)) }
+    ensures apart_err { OnErr result ((id pin : ℕ) → entry_number cache.new.entries key.now ≡ Some id → HasCacheSnapshot chains.old id pin → ⊥) }
+    ensures absent { IfOk result (λ o. IfNone o (entry_number cache.new.entries key.now ≡ None)) }
+    ensures whole { IfOk result (λ o. MatchOption o (NoneLost (losses chains.old) (losses chains.new) → ⊥) (λ s. NoneLost (losses chains.old) (losses chains.new) → IsHeldWhole chains.new s)) }
     ensures loses { LosesWhereCrowded S 1 chains.old chains.new }
-    ensures rest { LeavesRest chains.old chains.new }
+    ensures rest { IfOk result (λ o. MatchOption o (LeavesRest chains.old chains.new) (λ s. LeavesBut s chains.old chains.new)) }
+    ensures rest_err { OnErr result (LeavesRest chains.old chains.new) }
     ensures says { (schema : SchemaValue) (below : Below) (writes : Sequence Change) → IsCacheOver S schema below chains.old → All (ChangeFits schema) writes → SameSource (read.now ∷ []) writes →
         CacheSays schema (below_entry (entry_number cache.new.entries key.now) (λ _. writes) below) chains.new }
     ensures entries { AreEntries cache.new.entries chains.new }
@@ -185,17 +217,76 @@ fn enter_read<const S: usize>(
     an_opened_chain_says_what_is_handed_in();
     chains_of_the_cache_stay_in_use();
     each_chain_of_the_cache_has_one_version();
+    each_snapshot_pins_what_it_pinned();
     the_stream_of_a_mutation();
     what_calls_leave_of_memtables();
+    what_calls_leave_of_snapshots();
     what_leaves_the_caches_chains_leaves_the_entries();
     counts_in_range(chains);
     chains.known();
     read.holds_together();
     match cache.enter(alloc, chains, key, 0, read) {
-        Ok(Some(snap)) => fill_entry(alloc, chains, snap, read),
-        Ok(None) => Ok(()),
+        Ok(Some(snap)) => fill_held(alloc, chains, snap, read),
+        Ok(None) => Ok(None),
         Err(error) => Err(error),
     }
+}
+
+// Puts what was read of a partition into the row cache, in place of what it has of it, and gives the snapshot through which it was filled. The only error is want of memory.
+fn hold_populated<const S: usize>(
+    alloc: Global,
+    cache: &mut RowCache,
+    chains: &mut Chains<S>,
+    key: &PartKey,
+    read: &Mutation,
+) -> Result<Option<Snap>, AllocError>
+    requires entries { AreEntries cache.old.entries chains.old }
+    requires roomy { 8952 ≤ 7 * S / 8 }
+    requires over { (schema : SchemaValue) × (below : Below) × IsCacheOver S schema below chains.old × ChangeFits schema read.now }
+    ensures taken { IfOk result (λ o. IfSome o (IsHeldOf key.now cache.new.entries chains.old chains.new)) }
+    ensures apart { IfOk result (λ o. IfSome o (λ s. (pin : ℕ) → HasCacheSnapshot chains.old s.chain pin → ⊥)) }
+    ensures apart_err { OnErr result ((id pin : ℕ) → entry_number cache.new.entries key.now ≡ Some id → HasCacheSnapshot chains.old id pin → ⊥) }
+    ensures absent { IfOk result (λ o. IfNone o (entry_number cache.new.entries key.now ≡ None)) }
+    ensures whole { IfOk result (λ o. MatchOption o (NoneLost (losses chains.old) (losses chains.new) → ⊥) (λ s. NoneLost (losses chains.old) (losses chains.new) → IsHeldWhole chains.new s)) }
+    ensures loses { LosesWhereCrowded S 1 chains.old chains.new }
+    ensures rest { IfOk result (λ o. MatchOption o (LeavesRest chains.old chains.new) (λ s. LeavesBut s chains.old chains.new)) }
+    ensures rest_err { OnErr result (LeavesRest chains.old chains.new) }
+    ensures says { (schema : SchemaValue) (below : Below) (writes : Sequence Change) → IsCacheOver S schema below chains.old → All (ChangeFits schema) writes → SameSource (read.now ∷ []) writes →
+        CacheSays schema (below_entry (entry_number cache.new.entries key.now) (λ _. writes) below) chains.new }
+    ensures entries { AreEntries cache.new.entries chains.new }
+    ensures others { (q : Sequence ℕ) (id : ℕ) → entry_number cache.new.entries q ≡ Some id → (q ≡ key.now → ⊥) → entry_number cache.old.entries q ≡ Some id }
+    ensures stays { OnOk result (NoneLost (losses chains.old) (losses chains.new) → (q : Sequence ℕ) → (q ≡ key.now → ⊥) → IsEntryStill q cache.old.entries chains.old cache.new.entries chains.new) }
+{
+    forget_entry(cache, chains, key);
+    enter_read(alloc, cache, chains, key, read)
+}
+
+/// Puts what was read of a partition into the row cache, in place of what it has of it, as `populate`, and gives a snapshot of its new chain; none where no room could be made for its entry. The only error is want of memory: then no snapshot is taken, and the cache has some of it, or nothing.
+pub fn take_populated<const S: usize>(
+    alloc: Global,
+    cache: &mut RowCache,
+    chains: &mut Chains<S>,
+    key: &PartKey,
+    read: &Mutation,
+) -> Result<Option<Snap>, AllocError>
+    requires entries { AreEntries cache.old.entries chains.old }
+    requires roomy { 8952 ≤ 7 * S / 8 }
+    requires over { (schema : SchemaValue) × (below : Below) × IsCacheOver S schema below chains.old × ChangeFits schema read.now }
+    ensures known { OnOk result (NoneLost (losses chains.old) (losses chains.new) → IsSomeAnd (entry_number cache.new.entries key.now) (IsChainKnown chains.new)) }
+    ensures taken { IfOk result (λ o. IfSome o (IsHeldOf key.now cache.new.entries chains.old chains.new)) }
+    ensures apart { IfOk result (λ o. IfSome o (λ s. (pin : ℕ) → HasCacheSnapshot chains.old s.chain pin → ⊥)) }
+    ensures apart_err { OnErr result ((id pin : ℕ) → entry_number cache.new.entries key.now ≡ Some id → HasCacheSnapshot chains.old id pin → ⊥) }
+    ensures absent { IfOk result (λ o. IfNone o (entry_number cache.new.entries key.now ≡ None)) }
+    ensures loses { LosesWhereCrowded S 1 chains.old chains.new }
+    ensures rest { IfOk result (λ o. MatchOption o (LeavesRest chains.old chains.new) (λ s. LeavesBut s chains.old chains.new)) }
+    ensures rest_err { OnErr result (LeavesRest chains.old chains.new) }
+    ensures says { (schema : SchemaValue) (below : Below) (writes : Sequence Change) → IsCacheOver S schema below chains.old → All (ChangeFits schema) writes → SameSource (read.now ∷ []) writes →
+        CacheSays schema (below_entry (entry_number cache.new.entries key.now) (λ _. writes) below) chains.new }
+    ensures entries { AreEntries cache.new.entries chains.new }
+    ensures others { (q : Sequence ℕ) (id : ℕ) → entry_number cache.new.entries q ≡ Some id → (q ≡ key.now → ⊥) → entry_number cache.old.entries q ≡ Some id }
+    ensures stays { OnOk result (NoneLost (losses chains.old) (losses chains.new) → (q : Sequence ℕ) → (q ≡ key.now → ⊥) → IsEntryStill q cache.old.entries chains.old cache.new.entries chains.new) }
+{
+    hold_populated(alloc, cache, chains, key, read)
 }
 
 /// Puts what was read of a partition into the row cache, in place of what it has of it: in a new entry, for which and for each part of which room is made by moves and evictions; what finds no room is left out. All else that it has stays, where nothing is lost; and what is lost is lost in a crowded region: one version is made at most. No snapshot of the cache is taken that was not. The only error is want of memory: then the cache has some of it, or nothing.
@@ -218,6 +309,13 @@ pub fn populate<const S: usize>(
     ensures others { (q : Sequence ℕ) (id : ℕ) → entry_number cache.new.entries q ≡ Some id → (q ≡ key.now → ⊥) → entry_number cache.old.entries q ≡ Some id }
     ensures stays { OnOk result (NoneLost (losses chains.old) (losses chains.new) → (q : Sequence ℕ) → (q ≡ key.now → ⊥) → IsEntryStill q cache.old.entries chains.old cache.new.entries chains.new) }
 {
-    forget_entry(cache, chains, key);
-    enter_read(alloc, cache, chains, key, read)
+    what_leaves_the_caches_chains_leaves_the_entries();
+    match hold_populated(alloc, cache, chains, key, read) {
+        Ok(Some(snap)) => {
+            give_up(chains, snap);
+            Ok(())
+        }
+        Ok(None) => Ok(()),
+        Err(error) => Err(error),
+    }
 }

@@ -19,6 +19,7 @@ use Rattle.rc_entries.specs.Filling.{IsEntryOpened, MayFill, chain_opened}
 use Rattle.rc_entries.specs.Filled.{may-fill}
 use Rattle.rc_entries.specs.Entries.{AreEntries, AreSettled, IsCached}
 use Rattle.rc_entries.specs.Found.{entry_number}
+use Rattle.rc_filler.specs.Stands.{HasCacheSnapshot}
 use Rattle.rc_snapshots.specs.Seeing.{NothingIsLost}
 use Rattle.rc_row_cache.specs.Saying.{PinsAlike}
 use Rattle.rc_row_cache.proofs.Cache.{opened-stays}
@@ -118,3 +119,9 @@ entered-may laws id phase pt statics old mid new o s same taken =
     let there : chain_at mid s.chain ≡ Some k = ap (chain_at mid) (sym same) ∙ chain-here old mid id (Some k) o.chains in
     may-fill new s.chain s.pin (snapshot_number k.chain) (more k) (changed-now mid new s.chain more (is laws s.chain s.pin s.phase mid new taken) k there)
     (ap (pin_at (more k).chain.pins) (number-of laws s.chain s.pin s.phase mid new taken k there) ∙ laws.given_at (snapshot_number k.chain) k) (record { newest = refl; attached = refl; settled = refl })
+
+-- of the chain that an entry has then no snapshot was there before
+pub entered-apart : (id phase : ℕ) (pt : Option Tomb) (statics : Option Row) (old mid : Memory) → IsEntryOpened id pt statics phase old mid → (entry : Option ℕ) → entry ≡ Some id → (i pin : ℕ) → entry ≡ Some i → HasCacheSnapshot old i pin → ⊥
+entered-apart id phase pt statics old mid o entry here i pin there h =
+    let same : id ≡ i = number-same id i (sym here ∙ there) in
+    none-is-none h.chain (sym o.vacant ∙ ap (chain_at old) same ∙ h.there)

@@ -15,6 +15,7 @@ pub mod Entering
 pub mod Seeing
 mod Sums
 mod Weighed
+mod Pinned
 mod Bare
 mod Evicted
 mod Leaving

@@ -1,5 +1,5 @@
 -- Sums over what is there of a list, by what stands at each number.
-use Rattle.std.proofs.Common.{◌≡◌, ◌≤◌, ◌+◌, ◌*◌, ℕ, suc, Bool, true, false, List, [], ◌∷◌, Option, Some, None, refl, sym, ap, ◌∙◌, slice_index_or, cond, sum_by, arith}
+use Rattle.std.proofs.Common.{◌≡◌, ◌≢◌, ◌≤◌, ◌+◌, ◌*◌, ℕ, zero, suc, Bool, true, false, List, [], ◌∷◌, Option, Some, None, refl, sym, ap, ◌∙◌, slice_index_or, cond, sum_by, arith}
 use Rattle.std.specs.Prelude.{filter}
 use Rattle.std.proofs.lemmas.List.Sums.{sum_by-cons}
 use Rattle.rc_memory.specs.Kept.{present}
@@ -43,3 +43,14 @@ module _ {X : Type 0} where
   sum-least f g [] ys h = omega arith
   sum-least f g (o ∷ xs) [] h = omega (arith, sum-front f o xs, h 0, sum-least f g xs [] (λ n. h (suc n)))
   sum-least f g (o ∷ xs) (q ∷ ys) h = omega (arith, sum-front f o xs, sum-front g q ys, h 0, sum-least f g xs ys (λ n. h (suc n)))
+
+  -- where at each number but one it adds no more, and at that one by so much less or more, the sums are apart by that
+  pub sum-one : (f g : X → ℕ) (less more id : ℕ) (xs ys : List (Option X)) → ((n : ℕ) → n ≢ id → added_by f (slice_index_or xs n None) ≤ added_by g (slice_index_or ys n None)) → added_by f (slice_index_or xs id None) + less ≤ added_by g (slice_index_or ys id None) + more → sum_by f (present xs) + less ≤ sum_by g (present ys) + more
+  sum-one f g less more zero [] [] h at = omega (arith, at)
+  sum-one f g less more (suc i) [] [] h at = omega (arith, at)
+  sum-one f g less more zero [] (q ∷ ys) h at = omega (arith, sum-front g q ys, at)
+  sum-one f g less more (suc i) [] (q ∷ ys) h at = omega (arith, sum-front g q ys, sum-one f g less more i [] ys (λ n ne. h (suc n) (λ e. ne (omega (arith, e)))) at)
+  sum-one f g less more zero (o ∷ xs) [] h at = omega (arith, sum-front f o xs, at, sum-least f g xs [] (λ n. h (suc n) (omega arith)))
+  sum-one f g less more (suc i) (o ∷ xs) [] h at = omega (arith, sum-front f o xs, h 0 (omega arith), sum-one f g less more i xs [] (λ n ne. h (suc n) (λ e. ne (omega (arith, e)))) at)
+  sum-one f g less more zero (o ∷ xs) (q ∷ ys) h at = omega (arith, sum-front f o xs, sum-front g q ys, at, sum-least f g xs ys (λ n. h (suc n) (omega arith)))
+  sum-one f g less more (suc i) (o ∷ xs) (q ∷ ys) h at = omega (arith, sum-front f o xs, sum-front g q ys, h 0 (omega arith), sum-one f g less more i xs ys (λ n ne. h (suc n) (λ e. ne (omega (arith, e)))) at)

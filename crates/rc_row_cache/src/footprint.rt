@@ -16,6 +16,7 @@ ghost use Rattle.rc_memory.specs.Kept.{IsLiveInChains, IsSoundChain};
 ghost use Rattle.rc_memory.specs.Memory.{HasPin, IsSnapshotTaken, IsUntouched, KeptChain, Member, Memory, chain_at};
 ghost use Rattle.rc_memory.specs.Recency.{IsRecency};
 ghost use Rattle.rc_filler.specs.Snap.{Snap};
+ghost use Rattle.rc_filler.specs.Stands.{HasCacheSnapshot};
 ghost use Rattle.rc_filler.specs.Lives.{IsChainDropped, IsIdle};
 ghost use Rattle.rc_filler.specs.Evictions.{AreEvicted, IsRoomMade};
 ghost use Rattle.rc_filler.specs.LetGo.{AreLetGo};
@@ -170,4 +171,33 @@ pub fn chains_of_the_cache_stay_in_use()
     evictions_leave_the_use_of_a_chain();
     what_an_invalidation_leaves();
     what_leaves_the_chains_of_both_leaves_their_writes();
+}
+
+/// No call but the taking of a snapshot raises the number of the cache's snapshots, and that by one at most: it is no greater where objects moved, where objects were evicted, where room was made, where the chains of the cache are as they were, also once room was made, where a write was put, or was not, or memory was refused, where a memtable's snapshot was taken back, where the sealed writes were let go; where a partition was kept out of the cache, or memory was refused for it, where fills were done, where partitions were invalidated or detached, where a chain is gone, and where chains were read. Where a partition enters the cache a snapshot is taken. One of the cache's that is taken back is one less.
+pub fn what_calls_leave_of_snapshots()
+    ensures moved { (old new : Memory) → IsUntouched old new → cache_snapshots new ≤ cache_snapshots old }
+    ensures evicted { (went : List Member) (gone : List ℕ) (old new : Memory) → AreEvicted went gone old new → cache_snapshots new ≤ cache_snapshots old }
+    ensures made { (S : ℕ) (old new : Memory) → IsRoomMade S old new → cache_snapshots new ≤ cache_snapshots old }
+    ensures beside { (old new : Memory) → AreCachesSame old new → cache_snapshots new ≤ cache_snapshots old }
+    ensures made_beside { (S : ℕ) (old new : Memory) → IsRoomMadeBeside S old new → cache_snapshots new ≤ cache_snapshots old }
+    ensures put { (S : ℕ) (schema : SchemaValue) (w : Write) (old new : Unstored S) (writes later : List Write) → IsRecency old.chains → HaveWrites schema old writes later → IsPutBehind schema w old new → cache_snapshots new.chains ≤ cache_snapshots old.chains }
+    ensures not_put { (S : ℕ) (old new : Unstored S) → IsNotPut old new → cache_snapshots new.chains ≤ cache_snapshots old.chains }
+    ensures refused { (S : ℕ) (old new : Unstored S) → IsPutRefused old new → cache_snapshots new.chains ≤ cache_snapshots old.chains }
+    ensures taken { (id pin phase : ℕ) (old new : Memory) → IsSnapshotTaken old new id pin phase → cache_snapshots new ≤ cache_snapshots old + 1 }
+    ensures back { (s : Snap) (m : Memory) → cache_snapshots (taken_back s m) ≤ cache_snapshots m }
+    ensures one_less { (s : Snap) (m : Memory) → HasCacheSnapshot m s.chain s.pin → cache_snapshots (taken_back s m) + 1 ≤ cache_snapshots m }
+    ensures released { (s : Snap) (old new : Memory) → HasSnap old s → IsReleased s old new → cache_snapshots new ≤ cache_snapshots old }
+    ensures let_go { (S : ℕ) (schema : SchemaValue) (u : Unstored S) (new : Memory) (writes later : List Write) → DoAscend u.sealed → HaveWrites schema u writes later → AreLetGo (map (λ e. e.1) u.sealed) u.chains new → cache_snapshots new ≤ cache_snapshots u.chains }
+    ensures entered { (S : ℕ) (key : List ℕ) (pt : Option Tomb) (statics : Row) (phase : ℕ) (entries : List (List ℕ × ℕ)) (old new : Memory) (s : Snap) → IsEntered S key pt statics phase entries old new s → cache_snapshots new ≤ cache_snapshots old + 1 }
+    ensures kept_out { (S : ℕ) (old new : Memory) → IsKeptOut S old new → cache_snapshots new ≤ cache_snapshots old }
+    ensures enter_refused { (S : ℕ) (pt : Option Tomb) (statics : Row) (phase : ℕ) (old new : Memory) → IsEnterRefused S pt statics phase old new → cache_snapshots new ≤ cache_snapshots old }
+    ensures filled { (S id pin : ℕ) (old new : Memory) → AreFillsDone S id pin old new → cache_snapshots new ≤ cache_snapshots old }
+    ensures detached { (id : ℕ) (old new : Memory) → IsDetached id old new → cache_snapshots new ≤ cache_snapshots old }
+    ensures invalidated { (ids : List ℕ) (phase : ℕ) (old new : Memory) → IsInvalidated ids phase old new → cache_snapshots new ≤ cache_snapshots old }
+    ensures gone { (id : ℕ) (list : List Member) (old new : Memory) → IsChainDropped id list old new → cache_snapshots new ≤ cache_snapshots old }
+    ensures before { (old new : Memory) → AreAsBefore old new → cache_snapshots new ≤ cache_snapshots old }
+{
+    calls_on_memtables_leave_the_cache();
+    evictions_leave_the_use_of_a_chain();
+    what_an_invalidation_leaves();
 }

@@ -12,6 +12,7 @@ ghost use Rattle.rc_writes.specs.Allowed.{ChangeFits};
 ghost use Rattle.rc_version.specs.Versions.{statics_bytes};
 ghost use Rattle.rc_memory.specs.Memory.{KeptChain, Memory, chain_at, raised_by, with_dropped};
 ghost use Rattle.rc_filler.specs.Crowding.{LosesWhereCrowded};
+ghost use Rattle.rc_filler.specs.Stands.{HasCacheSnapshot};
 ghost use Rattle.rc_entries.specs.Filling.{IsEntryOpened, MayFill, filled_statics};
 ghost use Rattle.rc_entries.specs.Detached.{IsDetached};
 ghost use Rattle.rc_entries.specs.Found.{IsForgotten, entry_number};
@@ -84,7 +85,7 @@ impl RowCache {
         }
     }
 
-    /// Opens an entry for a partition that is none, by the head of what was read of it at a phase, once room was made for it by moves and evictions, and takes a snapshot of its chain. Entries whose chains are gone are forgotten. None where no room can be made: then one more skipped opening is counted. What is lost is lost in a crowded region. The only error is want of memory: then no snapshot was taken, and an entry was opened or none, once room was made or at once.
+    /// Opens an entry for a partition that is none, by the head of what was read of it at a phase, once room was made for it by moves and evictions, and takes a snapshot of its chain. Entries whose chains are gone are forgotten. None where no room can be made: then one more skipped opening is counted. What is lost is lost in a crowded region. The only error is want of memory: then no snapshot was taken, and an entry was opened or none, once room was made or at once: of its chain no snapshot was there before.
     pub fn enter<const S: usize>(
         &mut self,
         alloc: Global,
@@ -102,6 +103,7 @@ impl RowCache {
         ensures may { IfOk result (λ o. IfSome o (λ s. MayFill chains.new s.chain s.pin)) }
         ensures kept_out { IfOk result (λ o. IfNone o ((entry_number self.new.entries key.now ≡ None) × IsKeptOut S chains.old chains.new)) }
         ensures refused { OnErr result (IsEnterRefused S read.now.pt read.now.statics phase chains.old chains.new) }
+        ensures apart { OnErr result ((id pin : ℕ) → entry_number self.new.entries key.now ≡ Some id → HasCacheSnapshot chains.old id pin → ⊥) }
         ensures others { (q : Sequence ℕ) (id : ℕ) → entry_number self.new.entries q ≡ Some id → (q ≡ key.now → ⊥) → entry_number self.old.entries q ≡ Some id }
         ensures entries { AreEntries self.new.entries chains.new }
         ensures settled { OnOk result (AreSettled self.new.entries chains.new) }
@@ -135,6 +137,7 @@ impl RowCache {
         ensures may { IfOk result (λ o. IfSome o (λ s. MayFill chains.new s.chain s.pin)) }
         ensures kept_out { IfOk result (λ o. IfNone o ((entry_number self.new.entries key.now ≡ None) × IsKeptOut S chains.old chains.new)) }
         ensures refused { OnErr result (IsEnterRefused S head.now.pt head.now.statics phase chains.old chains.new) }
+        ensures apart { OnErr result ((id pin : ℕ) → entry_number self.new.entries key.now ≡ Some id → HasCacheSnapshot chains.old id pin → ⊥) }
         ensures others { (q : Sequence ℕ) (id : ℕ) → entry_number self.new.entries q ≡ Some id → (q ≡ key.now → ⊥) → entry_number self.old.entries q ≡ Some id }
         ensures entries { AreEntries self.new.entries chains.new }
         ensures settled { AreSettled self.new.entries chains.new }
@@ -184,6 +187,7 @@ impl RowCache {
         ensures entered { IfOk result (λ o. IfSome o (λ s. (mid : Memory) × IsEntryOpened s.chain head.now.pt (filled_statics head.now.statics) phase chains.old mid × IsTakenOf key.now self.new.entries mid chains.new s)) }
         ensures refused { OnErr result (IsOpenRefused head.now.pt head.now.statics phase chains.old chains.new) }
         ensures may { IfOk result (λ o. IfSome o (λ s. MayFill chains.new s.chain s.pin)) }
+        ensures apart { OnErr result ((id pin : ℕ) → entry_number self.new.entries key.now ≡ Some id → HasCacheSnapshot chains.old id pin → ⊥) }
         ensures others { (q : Sequence ℕ) (id : ℕ) → entry_number self.new.entries q ≡ Some id → (q ≡ key.now → ⊥) → entry_number self.old.entries q ≡ Some id }
         ensures entries { AreEntries self.new.entries chains.new }
         ensures settled { AreSettled self.new.entries chains.new }

@@ -1,5 +1,5 @@
 -- What asking the row cache, and filling it, leaves of what a shard stands for.
-use Rattle.std.proofs.Common.{◌≡◌, ℕ, List, Option, Some, None, IsSome, Result, Ok, Err, IfOk, refl, sym, ap, ◌∙◌, subst, le_refl, length, arith}
+use Rattle.std.proofs.Common.{◌≡◌, ℕ, List, Option, Some, None, IsSome, Result, Ok, Err, IfOk, refl, sym, ap, ◌∙◌, subst, arith}
 use Rattle.std.specs.Prelude.{[], ◌∷◌, IfSome, IsSomeAnd, IsTrue, OnOk}
 use Rattle.std.specs.Option.{option_map}
 use Rattle.rc_outside.specs.Files.{Files}
@@ -19,7 +19,6 @@ use Rattle.rc_lookup.specs.Writes.{AreSmall, HasWrites, chain_of}
 use Rattle.rc_lookup.specs.NoMore.{counts-same, counts-then}
 use Rattle.rc_lookup.specs.Fillers.{losses}
 use Rattle.rc_snapshots.specs.Seeing.{StillSeeBoth}
-use Rattle.rc_snapshots.specs.laws.Seeing.{all-see, seen-then}
 use Rattle.rc_stream.specs.Snapshot.{NoneLost}
 use Rattle.rc_stream.specs.Stream.{Stream}
 use Rattle.rc_lookup.specs.Unstored.{Unstored}
@@ -28,8 +27,8 @@ use Rattle.rc_lookup.specs.Readers.{IsTakenIf}
 use Rattle.rc_lookup.specs.Entries.{AreEntries}
 use Rattle.rc_lookup.specs.Found.{IsForgotten}
 use Rattle.rc_lookup.specs.Saying.{Below, CacheSays}
-use Rattle.rc_lookup.specs.Footprint.{memtable_bytes}
 use Rattle.rc_lookup.specs.Rest.{LeavesRest}
+use Rattle.rc_lookup.specs.laws.Rest.{rest-none, rest-then}
 use Rattle.rc_lookup.specs.Looked.{IsCacheOver, IsPartitionFound}
 use Rattle.rc_opened.specs.declared.opened.Opened.{Opened}
 use Rattle.rc_opened.specs.Opened.{snaps_of}
@@ -47,32 +46,8 @@ use Rattle.rc_shard.proofs.Standing.{sound-less}
 
 -- ---- one call after another
 
-rest-itself : (m : Memory) → LeavesRest m m
-rest-itself m = record {
-  memtables = λ id k there kind. there;
-  seen = all-see m m (λ s on. record { pin = on; versions = refl; kind = refl });
-  none_more = λ s on. on;
-  segments = λ i. length m.region.usages;
-  counts = counts-same m m refl refl;
-  bytes = le_refl (memtable_bytes m);
-  one = λ h. h;
-  used = λ one h. h;
-}
-
-rest-then : (old mid new : Memory) → LeavesRest old mid → LeavesRest mid new → LeavesRest old new
-rest-then old mid new f g = record {
-  memtables = λ id k there kind. g.memtables id k (f.memtables id k there kind) kind;
-  seen = seen-then old mid new f.seen g.seen;
-  none_more = λ s on. f.none_more s (g.none_more s on);
-  segments = g.segments ∙ f.segments;
-  counts = counts-then old mid new f.counts g.counts;
-  bytes = (let a = f.bytes in let b = g.bytes in omega (arith, a, b));
-  one = λ h. g.one (f.one h);
-  used = λ one h. g.used (f.one one) (f.used one h);
-}
-
 pub used-itself : (k : Shard) → IsCacheUsed k k
-used-itself k = record { rest = rest-itself k.unstored.chains; keys = record { sealed = refl; active = refl }; folder = refl; readers = refl; answered = refl; segments = refl; asked = refl }
+used-itself k = record { rest = rest-none k.unstored.chains; keys = record { sealed = refl; active = refl }; folder = refl; readers = refl; answered = refl; segments = refl; asked = refl }
 
 pub used-then : (k l k' : Shard) → IsCacheUsed k l → IsCacheUsed l k' → IsCacheUsed k k'
 used-then k l k' f g = record {

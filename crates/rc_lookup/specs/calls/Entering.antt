@@ -1,23 +1,24 @@
 -- What fills through a snapshot leave, and what is left while it is there.
 --     KnowsStaticRow     the static row is known to a snapshot
 --     IsFilledThrough    any number of fills through a snapshot
---     LeavesBut          all else is left but for one snapshot that is there then
-use Rattle.std.specs.Prelude.{◌≡◌, ◌⊎◌, ◌≤◌, ℕ, Contains, IsTrue, Some, None, length}
+--     IsPartlyHeld       the head of its partition is known to a snapshot that may be filled through
+--     IsHeldWhole        all is known to a snapshot that was filled
+use Rattle.std.specs.Prelude.{◌≡◌, ◌⊎◌, ℕ, Contains, IsTrue, Some, None}
 use Rattle.rc_core.specs.Chain.{has_flag}
 use Rattle.rc_core.specs.Continuity.{static_states}
-use Rattle.rc_core.specs.declared.entries.ChainKind.TheVariants.{Cache, Memtable}
+use Rattle.rc_core.specs.Version.{end_position}
 use Rattle.rc_registry.specs.Registry.{IsNumberIn}
-use Rattle.rc_memory.specs.Memory.{HasPin, KeptChain, Member, Memory, chain_at}
+use Rattle.rc_memory.specs.Changes.{member_at}
+use Rattle.rc_memory.specs.Memory.{KeptChain, Member, Memory, chain_at}
 use Rattle.rc_chain.specs.declared.chains.Snap.{Snap}
-use Rattle.rc_cached.specs.LetGo.{NoCountFell}
+use Rattle.rc_cached.specs.Filling.{MayFill}
 use Rattle.rc_stream.specs.Snapshot.{NoneLost}
 use Rattle.rc_cursor.specs.Snapshots.{kind_seen, versions_seen}
 use Rattle.rc_row_cache.specs.Fillers.{losses}
 use Rattle.rc_cached.specs.Fills.{IsUsedAsBefore}
 use Rattle.rc_row_cache.specs.Saying.{AreFillsDone}
-use Rattle.rc_snapshots.specs.Seeing.{AllStillSee}
-use Rattle.rc_row_cache.specs.Footprint.{AreInUse, HaveOneVersion, memtable_bytes}
 use Rattle.rc_lookup.specs.Rest.{LeavesRest}
+use Rattle.rc_lookup.specs.calls.Known.{IsSnapKnown}
 
 -- the static row is known to a snapshot
 abbrev pub KnowsStaticRow : Memory → Snap → Type 0
@@ -34,17 +35,14 @@ pub record IsFilledThrough (S : ℕ) (s : Snap) (old new : Memory) : Type 0 wher
   pub listed : NoneLost (losses old) (losses new) → (w : Member) → Contains old.recency w → Contains new.recency w
   pub beside : NoneLost (losses old) (losses new) → (id : ℕ) → (id ≡ s.chain → ⊥) → chain_at new id ≡ chain_at old id
 
--- All else is left but for one snapshot, of a chain of the cache, which is there then and was not before: memtables, what their snapshots see, and that no chain of the cache is to be dropped.
-pub record LeavesBut (s : Snap) (old new : Memory) : Type 0 where
-  pub chain : KeptChain
-  pub there : chain_at new s.chain ≡ Some chain
-  pub cached : chain.chain.kind ≡ Cache
-  pub fresh : HasPin old s.chain s.pin → ⊥
-  pub memtables : (id : ℕ) (k : KeptChain) → chain_at old id ≡ Some k → k.chain.kind ≡ Memtable → chain_at new id ≡ Some k
-  pub seen : AllStillSee old new
-  pub none_more : (t : Snap) → HasPin new t.chain t.pin → HasPin old t.chain t.pin ⊎ ((t.chain ≡ s.chain) × (t.pin ≡ s.pin))
-  pub segments : length new.region.usages ≡ length old.region.usages
-  pub counts : NoCountFell old new
-  pub bytes : memtable_bytes new ≤ memtable_bytes old
-  pub one : HaveOneVersion old → HaveOneVersion new
-  pub used : HaveOneVersion old → AreInUse old → AreInUse new
+-- a snapshot may be filled through, its static row is known to it, and the end of its partition is listed
+pub record IsPartlyHeld (m : Memory) (s : Snap) : Type 0 where
+  pub statics : KnowsStaticRow m s
+  pub may : MayFill m s.chain s.pin
+  pub listed : Contains m.recency (member_at s.chain 0 (Some end_position))
+
+-- to a snapshot that may be filled all of its partition is known, and the end of the partition is listed
+pub record IsHeldWhole (m : Memory) (s : Snap) : Type 0 where
+  pub known : IsSnapKnown m s
+  pub may : MayFill m s.chain s.pin
+  pub listed : Contains m.recency (member_at s.chain 0 (Some end_position))

@@ -11,7 +11,6 @@ use Rattle.std.specs.Prelude.{◌≡◌, ℕ, List, None, OnErr, Option, IfNone,
 use Rattle.rc_memory.specs.Memory.{KeptChain, Member, Memory, chain_at}
 use Rattle.rc_row_cache.specs.Crowding.{LosesWhereCrowded}
 use Rattle.rc_row_cache.specs.Found.{entry_number}
-use Rattle.rc_row_cache.specs.Footprint.{HaveOneVersion, memtable_bytes}
 use Rattle.rc_lookup.specs.Known.{IsChainKnown, IsPartitionKnown}
 use Rattle.rc_lookup.specs.calls.Known.{IsSnapKnown}
 use Rattle.rc_lookup.specs.Rest.{LeavesRest}
@@ -20,8 +19,10 @@ use Rattle.rc_lookup.specs.calls.Reading.{without_snap}
 use Rattle.rc_lookup.specs.Touched.{IsMadeRecent}
 use Rattle.rc_lookup.proofs.Losing.{looked-loses, told-loses}
 use Rattle.rc_lookup.proofs.Reordered.{entries-reordered, if-err, if-missed, looked-reordered, none-unread, rest-reordered}
-use Rattle.rc_lookup.proofs.Rest.{rest-looked, rest-then, rest-told}
-use Rattle.rc_lookup.proofs.Kept.{back-used, chain-known, found, is-some, none-there, same-number, snap-known, still, if-found, looked, same-source, told-found, told-looked, looked-none, unread}
+use Rattle.rc_lookup.specs.laws.Rest.{rest-then, rest-told}
+use Rattle.rc_lookup.proofs.Rest.{KeepsPins}
+use Rattle.rc_lookup.proofs.Holding.{HoldLaws, back-rest}
+use Rattle.rc_lookup.proofs.Kept.{chain-known, found, is-some, none-there, same-number, snap-known, still, if-found, looked, same-source, told-found, told-looked, looked-none, unread}
 use Rattle.rc_lookup.specs.laws.Staying.{still-same}
 use Rattle.rc_lookup.proofs.Staying.{entry-there, still-reordered}
 use Rattle.rc_lookup.proofs.looking.lookup.Goals as goal
@@ -102,14 +103,20 @@ pub returns-in-Ok-Some-clause-rest : goal.returns-in-Ok-Some-clause-rest
 returns-in-Ok-Some-clause-rest g c =
     let s = c.in-Ok-Some.snap in
     let old = c.args.chains.now in
-    let told = with_dropped [] old in
     let mid = c.snapshot.new.chains in
-    let new = without_snap s mid in
     let taken : IsTakenOf c.args.key.now c.snapshot.new.self.entries (with_dropped [] c.args.chains.now) c.snapshot.new.chains c.in-Ok-Some.snap = subst (λ r. IfOk r (λ o. IfSome o (λ (x : Snap). IsTakenOf c.args.key.now c.snapshot.new.self.entries (with_dropped [] c.args.chains.now) c.snapshot.new.chains x))) (c.in-Ok-Some.is ∙ ap Ok c.in-Ok-Some.field-0-is) c.snapshot.ensures.taken in
-    let t = taken.taken in
-    let bytes : memtable_bytes new ≡ memtable_bytes told = c.what_calls_leave_of_memtables.ensures.back s mid ∙ c.what_calls_leave_of_memtables.ensures.taken s.chain s.pin s.phase told mid t in
-    let one : HaveOneVersion told → HaveOneVersion new = λ h. c.each_chain_of_the_cache_has_one_version.ensures.back s mid (c.each_chain_of_the_cache_has_one_version.ensures.taken s.chain s.pin s.phase told mid t h) in
-    rest-then old new c.read_recent.new.chains (rest-then old told new (rest-told [] old) (rest-looked told new (looked s told mid t taken.there.0) bytes one (back-used s told mid t taken.there.0))) (rest-reordered new c.read_recent.new.chains c.read_recent.ensures.back)
+    let laws : HoldLaws = record {
+      bytes_taken = c.what_calls_leave_of_memtables.ensures.taken;
+      bytes_back = c.what_calls_leave_of_memtables.ensures.back;
+      one_taken = c.each_chain_of_the_cache_has_one_version.ensures.taken;
+      one_back = c.each_chain_of_the_cache_has_one_version.ensures.back;
+      used_taken = c.chains_of_the_cache_stay_in_use.ensures.taken;
+      held_back = λ x m id pin apart h. (c.each_snapshot_pins_what_it_pinned.ensures.released (λ _. []) id pin x.chain x.pin m apart h).0;
+      snapshots_taken = c.what_calls_leave_of_snapshots.ensures.taken;
+      one_less = c.what_calls_leave_of_snapshots.ensures.one_less;
+    } in
+    let pins : KeepsPins old mid = λ id pin h. (c.snapshot.ensures.pins (λ _. []) id pin h).0 in
+    rest-then old (without_snap s mid) c.read_recent.new.chains (back-rest s old mid taken.taken taken.there.0 laws pins taken.fresh) (rest-reordered (without_snap s mid) c.read_recent.new.chains c.read_recent.ensures.back)
 
 pub returns-in-Ok-None-clause-rest : goal.returns-in-Ok-None-clause-rest
 returns-in-Ok-None-clause-rest g c =

@@ -1,5 +1,5 @@
 -- The fragments are what writes say that say the same, and the filler is that of the snapshot.
-use Rattle.std.proofs.Common.{◌≡◌, List, None, sym, ap, ◌∙◌, subst, arith}
+use Rattle.std.proofs.Common.{◌≡◌, List, [], None, sym, ap, ◌∙◌, subst, arith}
 use Rattle.std.specs.Prelude.{IfOk}
 use Rattle.rc_mutation.specs.declared.fragments.Frag.{Frag}
 use Rattle.rc_mutation.specs.Fragments.{fragments, rows_and_changes}
@@ -65,6 +65,8 @@ returns-in-Ok-clause-through g c =
       bytes = c.what_calls_leave_of_memtables.ensures.filled;
       one = c.each_chain_of_the_cache_has_one_version.ensures.filled;
       used = c.chains_of_the_cache_stay_in_use.ensures.filled;
+      held = λ size chain of_pin m n done id pin there. (c.each_snapshot_pins_what_it_pinned.ensures.filled (λ _. []) id pin size chain of_pin m n done there).0;
+      snapshots = c.what_calls_leave_of_snapshots.ensures.filled;
     } in
     filled-through S laws s f h old new of c.counts_in_range.ensures did
 

@@ -1,5 +1,5 @@
 -- The chain of the entry is detached, where it is there.
-use Rattle.std.proofs.Common.{sym, ap, ◌∙◌, subst}
+use Rattle.std.proofs.Common.{[], sym, ap, ◌∙◌, subst}
 use Rattle.rc_row_cache.specs.Found.{entry_number}
 use Rattle.rc_row_cache.specs.Crowding.{LosesWhereCrowded}
 use Rattle.rc_row_cache.specs.Crowds.{loses-nothing}
@@ -7,7 +7,8 @@ use Rattle.rc_lookup.specs.Rest.{LeavesRest}
 use Rattle.rc_lookup.proofs.Losing.{detached-loses}
 use Rattle.rc_lookup.proofs.Leaving.{FoundBeside, entry-cached, none-left, others-were}
 use Rattle.rc_lookup.proofs.Numbered.{there-or-not}
-use Rattle.rc_lookup.proofs.Rest.{rest-detached, rest-none}
+use Rattle.rc_lookup.specs.laws.Rest.{rest-none}
+use Rattle.rc_lookup.proofs.Rest.{rest-detached}
 use Rattle.rc_lookup.proofs.Staying.{entry-beside}
 use Rattle.rc_lookup.proofs.populating.forget_entry.Goals as goal
 
@@ -37,7 +38,9 @@ returns-clause-rest g c =
     rest-detached id old new d cached c.forget.ensures.seen
     (c.what_calls_leave_of_memtables.ensures.detached id old new d)
     (c.each_chain_of_the_cache_has_one_version.ensures.detached id old new d)
-    (c.chains_of_the_cache_stay_in_use.ensures.detached id old new (λ k there. (c.requires.says.2 id k there (cached k there)).settled) d))
+    (c.chains_of_the_cache_stay_in_use.ensures.detached id old new (λ k there. (c.requires.says.2 id k there (cached k there)).settled) d)
+    (λ i pin h. (c.forget.ensures.pins (λ _. []) i pin h).0)
+    (c.what_calls_leave_of_snapshots.ensures.detached id old new d))
 
 pub returns-clause-stays : goal.returns-clause-stays
 returns-clause-stays g c =

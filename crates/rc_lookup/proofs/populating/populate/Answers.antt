@@ -1,78 +1,106 @@
--- The partition leaves the cache, and is entered again.
-use Rattle.std.proofs.Common.{◌≡◌, ◌≤◌, ℕ, List, arith}
-use Rattle.std.specs.Prelude.{IsSomeAnd}
+-- The partition leaves the cache and is entered again, and the snapshot through which it was filled is given up.
+use Rattle.std.proofs.Common.{◌≡◌, ℕ, List, Option, Some, sym, ap, ◌∙◌, subst, arith}
+use Rattle.std.specs.Prelude.{IfOk, IfSome, IsSomeAnd, MatchOption, Ok, OnErr, OnOk}
+use Rattle.rc_chain.specs.declared.chains.Snap.{Snap}
 use Rattle.rc_stream.specs.Snapshot.{NoneLost}
-use Rattle.rc_row_cache.specs.Crowds.{loses-after}
-use Rattle.rc_row_cache.specs.Found.{entry_number}
+use Rattle.rc_row_cache.specs.Crowds.{loses-before}
+use Rattle.rc_row_cache.specs.Calls.{below_entry}
 use Rattle.rc_row_cache.specs.Fillers.{losses}
+use Rattle.rc_row_cache.specs.Found.{entry_number}
+use Rattle.rc_lookup.specs.Held.{IsHeldOf}
 use Rattle.rc_lookup.specs.Known.{IsChainKnown}
+use Rattle.rc_lookup.specs.Rest.{LeavesBut, LeavesRest}
 use Rattle.rc_lookup.specs.Staying.{IsEntryStill}
-use Rattle.rc_lookup.proofs.Fills.{between}
-use Rattle.rc_lookup.proofs.Gathered.{on-also}
-use Rattle.rc_lookup.proofs.Rest.{rest-then}
-use Rattle.rc_lookup.specs.laws.Staying.{entry-then}
+use Rattle.rc_lookup.specs.calls.Entering.{IsHeldWhole}
+use Rattle.rc_lookup.specs.laws.Staying.{still-same, still-then}
 use Rattle.rc_lookup.proofs.populating.populate.Goals as goal
 
-pub forget_entry-requires : goal.forget_entry-requires
-forget_entry-requires g c = (omega arith, (c.requires.entries, (c.requires.over.0, c.requires.over.1, c.requires.over.2.says)))
+pub hold_populated-requires : goal.hold_populated-requires
+hold_populated-requires g c = (omega arith, (c.requires.entries, (c.requires.roomy, c.requires.over)))
 
-pub enter_read-requires : goal.enter_read-requires
-enter_read-requires g c =
-    let over = c.requires.over in (
-      omega arith,
-      (
-        c.forget_entry.ensures.entries,
-        (
-          c.forget_entry.ensures.none,
-          (
-            c.requires.roomy,
-            (over.0, over.1, record { limits = over.2.limits; small = over.2.small; fits = over.2.fits; says = c.forget_entry.ensures.says over.0 over.1 over.2.says }, over.3),
-          ),
-        ),
-      ),
-    )
-
-pub returns-clause-known : goal.returns-clause-known
-returns-clause-known g c =
+pub give_up-requires : goal.give_up-requires
+give_up-requires g c =
+    let s = c.in-Ok-Some.snap in
     let old = c.args.chains.now in
-    let mid = c.forget_entry.new.chains in
-    let new = c.enter_read.new.chains in
-    let found = entry_number c.enter_read.new.cache.entries c.args.key.now in
-    on-also (NoneLost (losses mid) (losses new) → IsSomeAnd found (IsChainKnown new)) (NoneLost (losses old) (losses new) → IsSomeAnd found (IsChainKnown new)) c.enter_read.result c.enter_read.ensures.known
-    (λ k none.
-    let before = c.forget_entry.ensures.rest.counts in
-    let since = c.enter_read.ensures.rest.counts in
-    let less : losses old ≤ losses mid = omega (arith, before.evicted, before.skipped) in
-    let more : losses mid ≤ losses new = omega (arith, since.evicted, since.skipped) in
-    k (between (losses old) (losses mid) (losses new) less more none).1)
-
-pub returns-clause-rest : goal.returns-clause-rest
-returns-clause-rest g c = rest-then c.args.chains.now c.forget_entry.new.chains c.enter_read.new.chains c.forget_entry.ensures.rest c.enter_read.ensures.rest
-
-pub returns-clause-says : goal.returns-clause-says
-returns-clause-says g c = λ schema below writes over fits same.
-    c.enter_read.ensures.says schema below writes (record { limits = over.limits; small = over.small; fits = over.fits; says = c.forget_entry.ensures.says schema below over.says }) fits same
-
-pub returns-clause-others : goal.returns-clause-others
-returns-clause-others g c = λ q id e ne. c.forget_entry.ensures.others q id (c.enter_read.ensures.others q id e ne)
-
-pub returns-clause-stays : goal.returns-clause-stays
-returns-clause-stays g c =
-    let old = c.args.chains.now in
-    let mid = c.forget_entry.new.chains in
-    let new = c.enter_read.new.chains in
+    let x = c.hold_populated.new.chains in
     let key = c.args.key.now in
-    let a = c.args.cache.now.entries in
-    let b = c.forget_entry.new.cache.entries in
-    let d = c.enter_read.new.cache.entries in
-    on-also (NoneLost (losses mid) (losses new) → (q : List ℕ) → (q ≡ key → ⊥) → IsEntryStill q b mid d new) (NoneLost (losses old) (losses new) → (q : List ℕ) → (q ≡ key → ⊥) → IsEntryStill q a old d new)
-    c.enter_read.result c.enter_read.ensures.stays
-    (λ k none q ne.
-    let before = c.forget_entry.ensures.rest.counts in
-    let since = c.enter_read.ensures.rest.counts in
-    let less : losses old ≤ losses mid = omega (arith, before.evicted, before.skipped) in
-    let more : losses mid ≤ losses new = omega (arith, since.evicted, since.skipped) in
-    entry-then q a b d old mid new (c.forget_entry.ensures.stays q ne) (k (between (losses old) (losses mid) (losses new) less more none).1 q ne))
+    let es = c.hold_populated.new.cache.entries in
+    let is = c.in-Ok-Some.is ∙ ap Ok c.in-Ok-Some.field-0-is in
+    let taken : IsHeldOf key es old x s = subst (λ r. IfOk r (λ o. IfSome o (IsHeldOf key es old x))) is c.hold_populated.ensures.taken in
+    (omega arith, taken.there)
 
-pub returns-clause-loses : goal.returns-clause-loses
-returns-clause-loses g c = loses-after g.row.S 1 c.args.chains.now c.forget_entry.new.chains c.enter_read.new.chains c.forget_entry.ensures.loses c.enter_read.ensures.loses
+pub returns-in-Ok-Some-clause-known : goal.returns-in-Ok-Some-clause-known
+returns-in-Ok-Some-clause-known g c = λ none.
+    let s = c.in-Ok-Some.snap in
+    let old = c.args.chains.now in
+    let x = c.hold_populated.new.chains in
+    let new = c.give_up.new.chains in
+    let key = c.args.key.now in
+    let es = c.hold_populated.new.cache.entries in
+    let is = c.in-Ok-Some.is ∙ ap Ok c.in-Ok-Some.field-0-is in
+    let taken : IsHeldOf key es old x s = subst (λ r. IfOk r (λ o. IfSome o (IsHeldOf key es old x))) is c.hold_populated.ensures.taken in
+    let whole = subst (λ r. IfOk r (λ o. MatchOption o (NoneLost (losses old) (losses x) → ⊥) (λ (y : Snap). NoneLost (losses old) (losses x) → IsHeldWhole x y))) is c.hold_populated.ensures.whole in
+    subst (λ (o : Option ℕ). IsSomeAnd o (IsChainKnown new)) (sym taken.entry) (c.give_up.ensures.known (whole (subst (NoneLost (losses old)) c.give_up.ensures.lost none)))
+
+pub returns-in-Ok-Some-clause-loses : goal.returns-in-Ok-Some-clause-loses
+returns-in-Ok-Some-clause-loses g c = loses-before g.row.S 1 c.args.chains.now c.hold_populated.new.chains c.give_up.new.chains c.hold_populated.ensures.loses c.give_up.ensures.loses
+
+pub returns-in-Ok-Some-clause-rest : goal.returns-in-Ok-Some-clause-rest
+returns-in-Ok-Some-clause-rest g c =
+    let s = c.in-Ok-Some.snap in
+    let old = c.args.chains.now in
+    let x = c.hold_populated.new.chains in
+    let new = c.give_up.new.chains in
+    let key = c.args.key.now in
+    let es = c.hold_populated.new.cache.entries in
+    let is = c.in-Ok-Some.is ∙ ap Ok c.in-Ok-Some.field-0-is in
+    let taken : IsHeldOf key es old x s = subst (λ r. IfOk r (λ o. IfSome o (IsHeldOf key es old x))) is c.hold_populated.ensures.taken in
+    let but = subst (λ r. IfOk r (λ o. MatchOption o (LeavesRest old x) (λ (y : Snap). LeavesBut y old x))) is c.hold_populated.ensures.rest in
+    c.give_up.ensures.rest old but taken.fresh
+
+pub returns-in-Ok-Some-clause-says : goal.returns-in-Ok-Some-clause-says
+returns-in-Ok-Some-clause-says g c = λ schema below writes over fits same.
+    c.give_up.ensures.says schema (below_entry (entry_number c.hold_populated.new.cache.entries c.args.key.now) (λ _. writes) below) (c.hold_populated.ensures.says schema below writes over fits same)
+
+pub returns-in-Ok-Some-clause-entries : goal.returns-in-Ok-Some-clause-entries
+returns-in-Ok-Some-clause-entries g c = c.what_leaves_the_caches_chains_leaves_the_entries.ensures.entries c.hold_populated.new.cache.entries c.hold_populated.new.chains c.give_up.new.chains c.give_up.ensures.cached c.hold_populated.ensures.entries
+
+pub returns-in-Ok-Some-clause-stays : goal.returns-in-Ok-Some-clause-stays
+returns-in-Ok-Some-clause-stays g c = λ none q ne id found on.
+    let s = c.in-Ok-Some.snap in
+    let old = c.args.chains.now in
+    let x = c.hold_populated.new.chains in
+    let new = c.give_up.new.chains in
+    let key = c.args.key.now in
+    let es = c.hold_populated.new.cache.entries in
+    let is = c.in-Ok-Some.is ∙ ap Ok c.in-Ok-Some.field-0-is in
+    let taken : IsHeldOf key es old x s = subst (λ r. IfOk r (λ o. IfSome o (IsHeldOf key es old x))) is c.hold_populated.ensures.taken in
+    let stays = subst (λ r. OnOk r (NoneLost (losses old) (losses x) → (q : List ℕ) → (q ≡ key → ⊥) → IsEntryStill q c.args.cache.now.entries old es x)) is c.hold_populated.ensures.stays in
+    let was = stays (subst (NoneLost (losses old)) c.give_up.ensures.lost none) q ne id found on in
+    let other : id ≡ s.chain → ⊥ = λ own. ne (c.hold_populated.ensures.entries.apart q key id was.0 (taken.entry ∙ ap (λ n. Some n) (sym own))) in
+    (was.0, still-then old x new id was.1 (still-same x new id (c.give_up.ensures.beside id other)))
+
+pub returns-in-Ok-None-clause-known : goal.returns-in-Ok-None-clause-known
+returns-in-Ok-None-clause-known g c = λ none.
+    let old = c.args.chains.now in
+    let x = c.hold_populated.new.chains in
+    let is = c.in-Ok-None.is ∙ ap Ok c.in-Ok-None.field-0-is in
+    let whole = subst (λ r. IfOk r (λ o. MatchOption o (NoneLost (losses old) (losses x) → ⊥) (λ (y : Snap). NoneLost (losses old) (losses x) → IsHeldWhole x y))) is c.hold_populated.ensures.whole in
+    absurd (whole none)
+
+pub returns-in-Ok-None-clause-rest : goal.returns-in-Ok-None-clause-rest
+returns-in-Ok-None-clause-rest g c =
+    let old = c.args.chains.now in
+    let x = c.hold_populated.new.chains in
+    let is = c.in-Ok-None.is ∙ ap Ok c.in-Ok-None.field-0-is in
+    subst (λ r. IfOk r (λ o. MatchOption o (LeavesRest old x) (λ (y : Snap). LeavesBut y old x))) is c.hold_populated.ensures.rest
+
+pub returns-in-Ok-None-clause-stays : goal.returns-in-Ok-None-clause-stays
+returns-in-Ok-None-clause-stays g c =
+    let old = c.args.chains.now in
+    let x = c.hold_populated.new.chains in
+    let is = c.in-Ok-None.is ∙ ap Ok c.in-Ok-None.field-0-is in
+    subst (λ r. OnOk r (NoneLost (losses old) (losses x) → (q : List ℕ) → (q ≡ c.args.key.now → ⊥) → IsEntryStill q c.args.cache.now.entries old c.hold_populated.new.cache.entries x)) is c.hold_populated.ensures.stays
+
+pub returns-in-Err-clause-rest : goal.returns-in-Err-clause-rest
+returns-in-Err-clause-rest g c = subst (λ r. OnErr r (LeavesRest c.args.chains.now c.hold_populated.new.chains)) c.in-Err.is c.hold_populated.ensures.rest_err

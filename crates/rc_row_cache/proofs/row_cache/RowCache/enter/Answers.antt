@@ -11,6 +11,7 @@ use Rattle.rc_row_cache.specs.Saying.{CacheSays}
 use Rattle.rc_filler.specs.Crowds.{loses-nothing}
 use Rattle.rc_row_cache.specs.laws.Losing.{loses-wider}
 use Rattle.rc_row_cache.proofs.Cache.{pins-same}
+use Rattle.rc_row_cache.proofs.Numbered.{none-is-none}
 use Rattle.rc_row_cache.proofs.Taking.{same-lost}
 use Rattle.rc_row_cache.proofs.row_cache.RowCache.enter.Goals as goal
 
@@ -70,3 +71,9 @@ returns-in-Err-clause-seen g c = all-see c.args.chains.now c.args.chains.now (sa
 
 pub returns-in-Err-clause-loses : goal.returns-in-Err-clause-loses
 returns-in-Err-clause-loses g c = loses-wider g.row.S 1 c.args.chains.now c.args.chains.now (loses-nothing g.row.S c.args.chains.now)
+
+pub returns-in-Ok-clause-apart : goal.returns-in-Ok-clause-apart
+returns-in-Ok-clause-apart g c = c.enter_by.ensures.apart
+
+pub returns-in-Err-clause-apart : goal.returns-in-Err-clause-apart
+returns-in-Err-clause-apart g c = λ id pin e h. none-is-none id (sym c.requires.absent ∙ e)

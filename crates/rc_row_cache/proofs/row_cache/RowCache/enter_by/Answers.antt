@@ -1,4 +1,4 @@
-use Rattle.std.proofs.Common.{inr, ◌≡◌, ◌+◌, ◌≤◌, ◌/◌, ℕ, [], List, refl, sym, ap, ◌∙◌, subst, arith}
+use Rattle.std.proofs.Common.{inr, ◌≡◌, ◌+◌, ◌≤◌, ◌/◌, ℕ, [], List, Some, refl, sym, ap, ◌∙◌, subst, arith}
 use Rattle.lsa_pool.specs.Room.{spare_of}
 use Rattle.rc_schema.specs.SchemaValue.{SchemaValue}
 use Rattle.rc_mutation.specs.declared.mutations.Mutation.{Mutation}
@@ -10,6 +10,7 @@ use Rattle.rc_row_cache.specs.Calls.{IsEnterRefused, IsEntered, IsKeptOut, IsOpe
 use Rattle.rc_row_cache.specs.Saying.{Below, CacheSays}
 use Rattle.rc_entries.specs.Found.{entry_number}
 use Rattle.rc_filler.specs.Crowding.{LosesWhereCrowded}
+use Rattle.rc_filler.specs.Stands.{HasCacheSnapshot}
 use Rattle.rc_filler.specs.Crowds.{loses-after, loses-same}
 use Rattle.rc_row_cache.specs.laws.Losing.{loses-kept-out, loses-wider}
 use Rattle.rc_row_cache.proofs.Cache.{pins-same}
@@ -173,3 +174,16 @@ returns-in-NoRoom-clause-loses g c =
     let none = c.in-NoRoom.ensures.none refl in
     let low : raised_by 0 made.counts.shrunk ≡ made.counts.shrunk = subst (λ n. raised_by 0 n ≡ n) (sym room.shrunk) c.counts_in_range.ensures in
     loses-wider g.row.S 1 old c.count.new.self (loses-after g.row.S 0 old made c.count.new.self room.loses (loses-kept-out g.row.S made c.count.new.self low none.3 (c.count.ensures ∙ ap (counts_raised 0 1 0) c.forget_dropped.ensures.told)))
+
+-- ---- no snapshot was there of the chain that came to be
+
+pub returns-in-Room-clause-apart : goal.returns-in-Room-clause-apart
+returns-in-Room-clause-apart g c =
+    let old = c.args.chains.now in
+    let made = c.make_room-room.new.chains in
+    let told = c.forget_dropped.new.chains in
+    let room = c.make_room-room.ensures.made in
+    let pins_told = λ (below : ℕ → List Mutation) (id pin : ℕ). pins-then below id pin old made told (c.each_snapshot_pins_what_it_pinned.ensures.room below id pin g.row.S old made room) (pins-same below id pin made told (λ k kind there. ap (λ (m : Memory). chain_at m id) c.forget_dropped.ensures.told ∙ there)) in
+    let found : ℕ → Type 0 = λ id. entry_number c.open.new.self.entries c.args.key.now ≡ Some id in
+    on-err c.open.result ((id pin : ℕ) → found id → HasCacheSnapshot told id pin → ⊥) ((id pin : ℕ) → found id → HasCacheSnapshot old id pin → ⊥)
+    (λ apart id pin e h. apart id pin e (pins_told (λ _. []) id pin h).0) c.open.ensures.apart

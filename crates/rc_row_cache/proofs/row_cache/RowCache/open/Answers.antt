@@ -1,4 +1,4 @@
-use Rattle.std.proofs.Common.{inl, inr, ◌≡◌, sym, ap, ◌∙◌, subst, arith}
+use Rattle.std.proofs.Common.{inl, inr, ◌≡◌, ℕ, Some, sym, ap, ◌∙◌, subst, arith}
 use Rattle.rc_memory.specs.Memory.{Memory, chain_at}
 use Rattle.rc_chain.specs.declared.chains.Snap.{Snap}
 use Rattle.rc_entries.specs.Entries.{AreEntries, AreSettled}
@@ -8,10 +8,12 @@ use Rattle.rc_snapshots.specs.laws.Seeing.{lost-then}
 use Rattle.rc_row_cache.specs.Calls.{IsOpenRefused, IsTakenOf, below_entry}
 use Rattle.rc_row_cache.specs.Saying.{CacheSays, with_below}
 use Rattle.rc_filler.specs.Crowds.{loses-before}
+use Rattle.rc_filler.specs.Stands.{HasCacheSnapshot}
 use Rattle.rc_row_cache.specs.laws.Losing.{loses-opened, loses-slots, loses-wider}
 use Rattle.rc_row_cache.proofs.Cache.{pins-same}
-use Rattle.rc_row_cache.proofs.Entering.{entered-may, entry-here, entry-other, if-some, number-same, on-err, opened-lost, opened-pinned, same-entries, same-settled}
+use Rattle.rc_row_cache.proofs.Entering.{entered-apart, entered-may, entry-here, entry-other, if-some, number-same, on-err, opened-lost, opened-pinned, same-entries, same-settled}
 use Rattle.rc_row_cache.proofs.Fills.{pins-then}
+use Rattle.rc_row_cache.proofs.Numbered.{none-is-none}
 use Rattle.rc_row_cache.proofs.Snapshots.{SnapshotLaws}
 use Rattle.rc_row_cache.proofs.Taking.{same-lost}
 use Rattle.rc_row_cache.proofs.row_cache.RowCache.open.Goals as goal
@@ -78,3 +80,15 @@ returns-in-Ok-clause-loses g c = loses-before g.row.S 1 c.args.chains.now c.open
 
 pub returns-in-Err-clause-loses : goal.returns-in-Err-clause-loses
 returns-in-Err-clause-loses g c = loses-wider g.row.S 1 c.args.chains.now c.open.new.chains (loses-slots g.row.S c.args.chains.now c.open.new.chains c.in-Err.ensures.err)
+
+-- ---- no snapshot was there of the chain that came to be
+
+pub returns-in-Ok-clause-apart : goal.returns-in-Ok-clause-apart
+returns-in-Ok-clause-apart g c =
+    on-err c.snapshot_of.result (c.snapshot_of.new.chains ≡ c.open.new.chains) ((id pin : ℕ) → entry_number c.open.new.self c.args.key.now ≡ Some id → HasCacheSnapshot c.args.chains.now id pin → ⊥)
+    (λ same. entered-apart c.in-Ok.id c.args.phase c.args.head.now.pt (filled_statics c.args.head.now.statics) c.args.chains.now c.open.new.chains c.in-Ok.ensures.opened (entry_number c.open.new.self c.args.key.now)
+    (entry-here c.each_key_is_found.ensures.added c.args.self.now.entries c.open.new.self c.args.key.now c.in-Ok.id c.requires.absent c.in-Ok.ensures.added))
+    c.snapshot_of.ensures.err
+
+pub returns-in-Err-clause-apart : goal.returns-in-Err-clause-apart
+returns-in-Err-clause-apart g c = λ id pin e h. none-is-none id (sym (ap (λ es. entry_number es c.args.key.now) c.in-Err.ensures.same ∙ c.requires.absent) ∙ e)
