@@ -71,7 +71,7 @@ pub trait Machine: Sized {
         ensures step { IfOk result (λ reply. Takes stands (W.files store.old) self.old command.now reply (W.files store.new) self.new) }
         ensures err { OnErr result (Stops stands (W.files store.old) self.old command.now (W.files store.new) self.new) }
         ensures faults { FaultsAreCounted result (W.faults store.old) (W.faults store.new) }
-        ensures asks { W.asks store.new ≤ W.asks store.old + most_asks (folder self.old).infos command.now }
+        ensures asks { (m : State) → stands (W.files store.old) self.old m → W.asks store.new ≤ W.asks store.old + most_asks m command.now }
         ensures figures { IfOk result (λ reply. AreCounted command.now reply (W.asks store.old) (W.asks store.new) (figures self.old) (figures self.new)) };
 
     /// Lets it go, with what it holds.

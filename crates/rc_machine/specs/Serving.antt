@@ -3,17 +3,17 @@
 --     most_asks          how many ranges it may ask for
 --     FaultsAreCounted      a reply that tells a fault comes only where the store failed
 use Rattle.std.specs.Prelude.{◌≡◌, ℕ, ◌+◌, ◌*◌, ◌/◌, ◌≤◌, ◌⊎◌, List, length, sum_by, Option, Result, IfOk, ⊤}
+use Rattle.std.specs.Option.{option_map_or}
 use Rattle.rc_outside.specs.Files.{Files}
 use Rattle.rc_outside.specs.Faults.{Rose}
 use Rattle.rc_lines.specs.declared.commands.Command.{Command}
-use Rattle.rc_lines.specs.declared.commands.Command.TheVariants.{OpenRead, Flush, FlushBegin}
+use Rattle.rc_lines.specs.declared.commands.Command.TheVariants.{OpenRead, Read, Flush, FlushBegin}
 use Rattle.rc_lines.specs.declared.commands.Refusal.{Refusal}
 use Rattle.rc_lines.specs.declared.commands.Refusal.TheVariants.{ReadFault, WriteFault}
 use Rattle.rc_lines.specs.declared.commands.Reply.{Reply}
 use Rattle.rc_lines.specs.declared.commands.Reply.TheVariants.{Refused}
-use Rattle.rc_tfile.specs.declared.info.TableInfo.{TableInfo}
 use Rattle.rc_tables.specs.Tables.{listing}
-use Rattle.rc_machine.specs.State.{State}
+use Rattle.rc_machine.specs.State.{Reader, State, reader_of}
 use Rattle.rc_machine.specs.Steps.{Steps, sealing}
 
 -- what want of memory leaves: a flush may have sealed the writes, nothing else changes
@@ -36,10 +36,12 @@ module _ {Kept : Type 0} (Stands : Option Files → Kept → State → Type 0) w
 abbrev pub checks_of : List (List ℕ) → ℕ
 checks_of files = sum_by (λ bytes. length bytes / 2048 + 2) files
 
--- at most so many ranges of table files are asked for by a command: an open reads its partition from each table that lists it
-abbrev pub most_asks : List TableInfo → Command → ℕ
-most_asks infos (OpenRead id key slice) = 2 * listing key infos
-most_asks infos command = 0
+-- at most so many ranges of table files are asked for by a command: an open reads its partition from each table that lists it, and a read of an open
+-- reader may read that reader's partition again
+abbrev pub most_asks : State → Command → ℕ
+most_asks m (OpenRead id key slice) = 2 * listing key m.infos
+most_asks m (Read id count) = option_map_or (λ (r : Reader). 2 * listing r.key m.infos) (reader_of id m) 0
+most_asks m command = 0
 
 -- a refusal that says that the store failed
 abbrev pub OnRefusedFault : Refusal → Type 0 → Type 0

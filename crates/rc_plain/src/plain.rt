@@ -143,7 +143,7 @@ impl Plain {
         ensures step { IfOk result (λ reply. Takes PlainStands (W.files store.old) self.old command.now reply (W.files store.new) self.new) }
         ensures err { OnErr result (Stops PlainStands (W.files store.old) self.old command.now (W.files store.new) self.new) }
         ensures faults { FaultsAreCounted result (W.faults store.old) (W.faults store.new) }
-        ensures asks { W.asks store.new ≤ W.asks store.old + most_asks self.old.infos command.now }
+        ensures asks { (m : State) → PlainStands (W.files store.old) self.old m → W.asks store.new ≤ W.asks store.old + most_asks m command.now }
         ensures counts { AreSameCounts self.old self.new }
         ensures told { IfOk result (λ reply. IfSome (figures_in command.now reply) (λ figures. figures ≡ plain_figures self.old (W.asks store.old))) }
     {

@@ -154,7 +154,7 @@ impl Machine for Shard {
         ensures step { IfOk result (λ reply. Takes ⟦<Shard as Machine>⟧.stands (W.files store.old) self.old command.now reply (W.files store.new) self.new) }
         ensures err { OnErr result (Stops ⟦<Shard as Machine>⟧.stands (W.files store.old) self.old command.now (W.files store.new) self.new) }
         ensures faults { FaultsAreCounted result (W.faults store.old) (W.faults store.new) }
-        ensures asks { W.asks store.new ≤ W.asks store.old + most_asks self.old.folder.infos command.now }
+        ensures asks { (m : State) → ⟦<Shard as Machine>⟧.stands (W.files store.old) self.old m → W.asks store.new ≤ W.asks store.old + most_asks m command.now }
         ensures full { IfOk result (λ reply. IsFullAsTold command.now reply self.old.folder.schema self.new.unstored) }
         ensures pins { IfOk result (λ reply. IsOpenedAsTold command.now reply self.old.readers.items self.old.unstored self.new.readers.items self.new.unstored) }
         ensures known { AsksNothingWhereKnown command.now self.old (W.asks store.old) (W.asks store.new) }
@@ -231,7 +231,7 @@ impl Shard {
         ensures step { IfOk result (λ reply. Takes ⟦<Shard as Machine>⟧.stands (W.files store.old) self.old command.now reply (W.files store.new) self.new) }
         ensures err { OnErr result (Stops ⟦<Shard as Machine>⟧.stands (W.files store.old) self.old command.now (W.files store.new) self.new) }
         ensures faults { FaultsAreCounted result (W.faults store.old) (W.faults store.new) }
-        ensures asks { W.asks store.new ≤ W.asks store.old + most_asks self.old.folder.infos command.now }
+        ensures asks { (m : State) → ⟦<Shard as Machine>⟧.stands (W.files store.old) self.old m → W.asks store.new ≤ W.asks store.old + most_asks m command.now }
         ensures full { IfOk result (λ reply. IsFullAsTold command.now reply self.old.folder.schema self.new.unstored) }
         ensures pins { IfOk result (λ reply. IsOpenedAsTold command.now reply self.old.readers.items self.old.unstored self.new.readers.items self.new.unstored) }
         ensures known { AsksNothingWhereKnown command.now self.old (W.asks store.old) (W.asks store.new) }

@@ -260,7 +260,7 @@ module _ {Kept : Type 0} (Stands : Option Files → Kept → State → Type 0) (
     pub stands : Stands store'.0 k' next
     pub faults : store.1 ≤ store'.1
     pub faulty : OnFaulty reply (Rose store.1 store'.1)
-    pub asks : store'.2 ≤ store.2 + most_asks (folder k).infos command
+    pub asks : store'.2 ≤ store.2 + most_asks m command
     pub counted : AreCounted command reply store.2 store'.2 (figures k) (figures k')
 
   module _ (store store' : StoreView) (k k' : Kept) (old : Moment) (line : List ℕ) (command : Command) (reply : Reply) (s : ServesAt Stands figures k store old)
@@ -279,33 +279,32 @@ module _ {Kept : Type 0} (Stands : Option Files → Kept → State → Type 0) (
     unfolding told_then
     goes_then = goes-on store.2 store'.2 command reply s.0 old.told (figures k) (figures k') s.5 d.counted
 
-    command_step : LineStep old line (reply_text (folder k').schema reply) (next_moment old (Serving d.next) store'.1 store'.2 (most_asks (folder k).infos command) told_then)
+    command_step : LineStep old line (reply_text (folder k').schema reply) (next_moment old (Serving d.next) store'.1 store'.2 (most_asks s.0 command) told_then)
     unfolding told_then
     command_step =
-        line_step old line (reply_text (folder k').schema reply) (Serving s.0) (Serving d.next) (Some reply) store'.1 store'.2 (most_asks (folder k).infos command) told_then s.2
+        line_step old line (reply_text (folder k').schema reply) (Serving s.0) (Serving d.next) (Some reply) store'.1 store'.2 (most_asks s.0 command) told_then s.2
         (subst (λ meaning. StageStep old.segments (Serving s.0) meaning (Some reply) (reply_text (folder k').schema reply) (Serving d.next)) (sym means) (d.next, d.step, ap (λ z. reply_text z reply) same_schema, refl))
         (subst (λ n. n ≤ store'.1) (sym s.3) d.faults, λ t. told (folder k').schema reply (Rose old.faults store'.1) (subst (λ n. OnFaulty reply (Rose n store'.1)) (sym s.3) d.faulty) t)
-        (subst (λ meaning. MayAsk (Serving s.0) meaning (most_asks (folder k).infos command)) (sym means) (ap (λ infos. most_asks infos command) (sym (over store.0 k s.0 s.1).infos)))
-        (subst (λ n. store'.2 ≤ n + most_asks (folder k).infos command) (sym s.4) d.asks)
+        (subst (λ meaning. MayAsk (Serving s.0) meaning (most_asks s.0 command)) (sym means) refl)
+        (subst (λ n. store'.2 ≤ n + most_asks s.0 command) (sym s.4) d.asks)
         (subst (λ meaning. told_then ≡ told_after (Serving s.0) meaning (Some reply) old.asks store'.2 old.told) (sym means) (ap (λ n. told_after (Serving s.0) (Ok command) (Some reply) n store'.2 old.told) (sym s.4)))
         (subst (λ meaning. TellsFigures meaning (Some reply) old.asks old.told) (sym means) (subst (λ n. TellsFigures (Ok command) (Some reply) n old.told) (sym s.4) (may-tell store.2 command reply old.told (figures k) (figures k') store'.2 s.5 d.counted)))
 
     pub command_answered : (before now : List ℕ) → now ≡ before ++ reply_text (folder k').schema reply → Answered LineStep EndsRun LeavesStore old line (ServesAt Stands figures k' store') store' before now (Ok None)
     command_answered before now e =
-        (reply_text (folder k').schema reply, next_moment old (Serving d.next) store'.1 store'.2 (most_asks (folder k).infos command) told_then, command_step, serves Stands figures old store' (most_asks (folder k).infos command) told_then k' d.next d.stands goes_then, e)
+        (reply_text (folder k').schema reply, next_moment old (Serving d.next) store'.1 store'.2 (most_asks s.0 command) told_then, command_step, serves Stands figures old store' (most_asks s.0 command) told_then k' d.next d.stands goes_then, e)
 
     -- its reply found no memory
     pub command_unanswered : (before now : List ℕ) (r : Result (Option Ending) AllocError) → IsErr r → Answered LineStep EndsRun LeavesStore old line (ServesAt Stands figures k' store') store' before now r
     command_unanswered before now (Err e) is =
-        inr (reply_text (folder k').schema reply, next_moment old (Serving d.next) store'.1 store'.2 (most_asks (folder k).infos command) told_then, command_step, leaves_behind old store' (most_asks (folder k).infos command) told_then d.next (sym (over store'.0 k' d.next d.stands).files))
+        inr (reply_text (folder k').schema reply, next_moment old (Serving d.next) store'.1 store'.2 (most_asks s.0 command) told_then, command_step, leaves_behind old store' (most_asks s.0 command) told_then d.next (sym (over store'.0 k' d.next d.stands).files))
     command_unanswered before now (Ok x) is = absurd (cc)
 
   -- memory ran out in a command
   pub stopped_answered : (store store' : StoreView) (k k' : Kept) (old : Moment) (line : List ℕ) (command : Command) (before now : List ℕ) (r : Result (Option Ending) AllocError) → IsErr r → ServesAt Stands figures k store old
-      → store'.0 ≡ store.0 → store.1 ≤ store'.1 → store'.2 ≤ store.2 + most_asks (folder k).infos command → Answered LineStep EndsRun LeavesStore old line (ServesAt Stands figures k' store') store' before now r
+      → store'.0 ≡ store.0 → store.1 ≤ store'.1 → ((m : State) → Stands store.0 k m → store'.2 ≤ store.2 + most_asks m command) → Answered LineStep EndsRun LeavesStore old line (ServesAt Stands figures k' store') store' before now r
   stopped_answered store store' k k' old line command before now (Err e) is s same le asks =
-      let few : store'.2 ≤ old.asks + 2 * length (s.0).infos =
-      subst (λ infos. store'.2 ≤ old.asks + 2 * length infos) (sym (over store.0 k s.0 s.1).infos) (subst (λ n. store'.2 ≤ n + 2 * length (folder k).infos) (sym s.4) (omega (arith, asks, few_asked (folder k).infos command))) in
+      let few : store'.2 ≤ old.asks + 2 * length (s.0).infos = subst (λ n. store'.2 ≤ n + 2 * length (s.0).infos) (sym s.4) (let a = asks s.0 s.1 in omega (arith, a, few_asked s.0 command)) in
       inl (same ∙ sym (over store.0 k s.0 s.1).files ∙ ap files_of (sym s.2), subst (λ n. n ≤ store'.1) (sym s.3) le, subst (λ st. MayHaveAsked st old.asks store'.2) (sym s.2) few)
   stopped_answered store store' k k' old line command before now (Ok x) is s same le asks = absurd (cc)
 

@@ -96,10 +96,10 @@ StageStep segments stage (Ok command) reply text new = ⊥
 StageStep segments stage (Err refusal) reply text new = (text ≡ refusal_text refusal) × (new ≡ stage) × (reply ≡ None)
 
 -- At most so many ranges may be asked for by a line, by its meaning: before a schema line was taken by the check of each file, where they
--- are told, and by as many as it takes where they are not; then by what its command may ask for.
+-- are told, and by as many as it takes where they are not; then by what its command may ask for: an open, and a read of an open reader.
 abbrev pub MayAsk : Stage → Result Command Refusal → ℕ → Type 0
 MayAsk (Waiting files) (Ok (SetSchema schema)) bound = IfSome files (λ told. bound ≡ checks_of (map.values told))
-MayAsk (Serving m) (Ok command) bound = bound ≡ most_asks m.infos command
+MayAsk (Serving m) (Ok command) bound = bound ≡ most_asks m command
 MayAsk stage meaning bound = bound ≡ 0
 
 -- What `stats` lines go by after a line, by its meaning and the machine's reply, where the store had been asked for so many ranges before and after it:

@@ -18,7 +18,7 @@ returns-in_err-print_reply-in-Ok-clause-answered g c = λ old s.
     let step = c.in_ok-reply-in-Ok.ensures.step s.0 s.1 in
     command_unanswered g.M.Machine.stands g.M.Machine.figures g.M.Machine.folder g.met.M.Machine.over (g.W.Store.files c.args.store.now, g.W.Store.faults c.args.store.now, g.W.Store.asks c.args.store.now) (g.W.Store.files c.serve.new.store, g.W.Store.faults c.serve.new.store, g.W.Store.asks c.serve.new.store)
     c.args.machine.now c.serve.new.self old c.args.line.now c.in-Ok.command c.in_ok-reply-in-Ok.reply s (subst (λ z. served_meaning (parse (Some z) c.args.line.now) ≡ Ok c.in-Ok.command) c.schema.ensures c.in-Ok.ensures.reads)
-    (record { next = step.0; step = step.1; stands = step.2; faults = c.in_ok-reply-in-Ok.ensures.faults.0; faulty = c.in_ok-reply-in-Ok.ensures.faults.1; asks = c.in_ok-reply-in-Ok.ensures.asks; counted = c.in_ok-reply-in-Ok.ensures.figures })
+    (record { next = step.0; step = step.1; stands = step.2; faults = c.in_ok-reply-in-Ok.ensures.faults.0; faulty = c.in_ok-reply-in-Ok.ensures.faults.1; asks = c.in_ok-reply-in-Ok.ensures.asks s.0 s.1; counted = c.in_ok-reply-in-Ok.ensures.figures })
     c.args.text.now.items c.print_reply.new.out.items c.from_residual-in_err-print_reply-in-Ok.result c.from_residual-in_err-print_reply-in-Ok.ensures.0
 
 pub returns-in_ok-print_reply-in-Ok-clause-answered : goal.returns-in_ok-print_reply-in-Ok-clause-answered
@@ -26,7 +26,7 @@ returns-in_ok-print_reply-in-Ok-clause-answered g c = λ old s.
     let step = c.in_ok-reply-in-Ok.ensures.step s.0 s.1 in
     command_answered g.M.Machine.stands g.M.Machine.figures g.M.Machine.folder g.met.M.Machine.over (g.W.Store.files c.args.store.now, g.W.Store.faults c.args.store.now, g.W.Store.asks c.args.store.now) (g.W.Store.files c.serve.new.store, g.W.Store.faults c.serve.new.store, g.W.Store.asks c.serve.new.store)
     c.args.machine.now c.serve.new.self old c.args.line.now c.in-Ok.command c.in_ok-reply-in-Ok.reply s (subst (λ z. served_meaning (parse (Some z) c.args.line.now) ≡ Ok c.in-Ok.command) c.schema.ensures c.in-Ok.ensures.reads)
-    (record { next = step.0; step = step.1; stands = step.2; faults = c.in_ok-reply-in-Ok.ensures.faults.0; faulty = c.in_ok-reply-in-Ok.ensures.faults.1; asks = c.in_ok-reply-in-Ok.ensures.asks; counted = c.in_ok-reply-in-Ok.ensures.figures })
+    (record { next = step.0; step = step.1; stands = step.2; faults = c.in_ok-reply-in-Ok.ensures.faults.0; faulty = c.in_ok-reply-in-Ok.ensures.faults.1; asks = c.in_ok-reply-in-Ok.ensures.asks s.0 s.1; counted = c.in_ok-reply-in-Ok.ensures.figures })
     c.args.text.now.items c.print_reply.new.out.items (c.in_ok-print_reply-in-Ok.ensures.ok ∙ ap (λ z. c.args.text.now.items ++ reply_text z c.in_ok-reply-in-Ok.reply) c.schema-in-Ok.ensures)
 
 pub returns-in_ok-print_refusal-in-Err-Refused-clause-answered : goal.returns-in_ok-print_refusal-in-Err-Refused-clause-answered
