@@ -19,7 +19,7 @@ use Rattle.rc_mutation.specs.Canonical.{IsBounded, IsCanonicalList, IsMutationOf
 use Rattle.rc_mutation.specs.laws.CanonicalListed.{listed}
 use Rattle.rc_mutation.specs.Fragments.{tomb_after, rows_and_changes}
 use Rattle.rc_stream.specs.Merging.{place_of}
-use Rattle.rc_tfile.specs.declared.reading.Part.{Part}
+use Rattle.rc_tfile.specs.Part.{Part}
 use Rattle.rc_cell.specs.Columns.{ascending}
 use Rattle.rc_tfile.specs.Items.{IsItem, PartItem, item_code}
 use Rattle.rc_writes.specs.Allowed.{ChangeFits, IsRangeBound, IsRowOf, IsStaticOf}

@@ -14,7 +14,7 @@ use Rattle.rc_mutation.specs.declared.fragments.Frag.{Frag}
 use Rattle.rc_mutation.specs.declared.fragments.Frag.TheVariants as frag
 use Rattle.rc_mutation.specs.declared.mutations.Mutation.{Mutation}
 use Rattle.rc_mutation.specs.Source.{IsMutation}
-use Rattle.rc_tfile.specs.declared.reading.Part.{Part}
+use Rattle.rc_tfile.specs.Part.{Part}
 use Rattle.rc_tfile.specs.Items.{Item, PartItem, RowItem, ChangeItem, EndItem, item_code, IsItem, bytes_code}
 use Rattle.rc_tfile.specs.Reading.{Starts, part_item}
 use Rattle.rc_tfile.specs.TableText.{frag_items, part_items}

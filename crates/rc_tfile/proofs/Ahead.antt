@@ -10,9 +10,9 @@ use Rattle.rc_tfile.specs.declared.checking.CheckErr.TheVariants.{Fault, Damaged
 use Rattle.rc_rowcode.specs.Spelling.{length_code}
 use Rattle.rc_schema.specs.SchemaValue.{SchemaValue}
 use Rattle.rc_schema.specs.SchemaText.{schema_text}
-use Rattle.rc_tfile.specs.Items.{HeadItem, item_code, IsItem}
-use Rattle.rc_tfile.specs.Reading.{Starts}
-use Rattle.rc_tfile.proofs.Heads.{length_of_length}
+use Rattle.rc_items.specs.Items.{HeadItem, item_code, IsItem}
+use Rattle.rc_items.specs.Reading.{Starts}
+use Rattle.rc_items.specs.laws.Heads.{length_of_length}
 use Rattle.rc_tfile.specs.calls.Windows.{ReadAhead, IsAhead, IsItemAhead, IsOpen, reads_left}
 
 pub lies_ahead : (files : Option Files) (w : ReadAhead) (count : ℕ) → IsOpen files w → w.read + count ≤ w.size → LiesInFile files w.number w.read count

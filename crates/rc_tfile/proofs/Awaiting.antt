@@ -4,15 +4,15 @@ use Rattle.std.specs.Prelude.{MatchResult, ⊤}
 use Rattle.std.specs.List.{flat_map, AllByRecursion}
 use Rattle.rc_outside.specs.Files.{Files}
 use Rattle.rc_schema.specs.SchemaValue.{SchemaValue}
-use Rattle.rc_tfile.specs.declared.blocks.Block.{Block}
+use Rattle.rc_items.specs.declared.blocks.Block.{Block}
 use Rattle.rc_tfile.specs.declared.checking.CheckErr.{CheckErr}
 use Rattle.rc_tfile.specs.declared.checking.CheckErr.TheVariants.{Fault, Damaged, OtherSchema, NoMemory}
-use Rattle.rc_tfile.specs.declared.outline.Outline.{Outline}
-use Rattle.rc_tfile.specs.Items.{Item, HeadItem, PartItem, RowItem, ChangeItem, EndItem, StopItem, EntryItem, BlockItem, TailItem, item_code, IsItem}
-use Rattle.rc_tfile.specs.Before.{ItemsBefore, Start, Between, Inside, Behind, text, offset, item_place, followed_by}
-use Rattle.rc_tfile.specs.Blocks.{DirectoryEntry, entries, entry_items, ending, items_due}
-use Rattle.rc_tfile.specs.TableText.{ItemFits, AllFit, MayStand}
-use Rattle.rc_tfile.specs.calls.Outlined.{IsListed}
+use Rattle.rc_items.specs.declared.outline.Outline.{Outline}
+use Rattle.rc_items.specs.Items.{Item, HeadItem, PartItem, RowItem, ChangeItem, EndItem, StopItem, EntryItem, BlockItem, TailItem, item_code, IsItem}
+use Rattle.rc_items.specs.Before.{ItemsBefore, Start, Between, Inside, Behind, text, offset, item_place, followed_by}
+use Rattle.rc_items.specs.Blocks.{DirectoryEntry, entries, entry_items, ending, items_due}
+use Rattle.rc_items.specs.TableText.{ItemFits, AllFit, MayStand}
+use Rattle.rc_items.specs.Outlined.{IsListed}
 use Rattle.rc_tfile.specs.Checking.{IsContent, IsHostError}
 use Rattle.rc_tfile.specs.calls.Windows.{ReadAhead, IsItemAhead, IsAheadIn}
 use Rattle.rc_tfile.specs.Walking.{IsRefusalOf}

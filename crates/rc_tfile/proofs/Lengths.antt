@@ -9,12 +9,12 @@ use Rattle.rc_schema.specs.SchemaValue.{SchemaValue}
 use Rattle.rc_rowcode.specs.Spelling.{stamp_code, time_code, tomb_code, optional_code, key_code, pos_code, cells_code, row_code, KeyFits, IsCodedRow}
 use Rattle.rc_rowcode.specs.laws.Sizes.{length-stamp, length-time, key_small, cells_small}
 use Rattle.rc_rowcode.specs.laws.Limits.{key_limits, row_limits}
-use Rattle.rc_tfile.specs.declared.blocks.Block.{Block}
-use Rattle.rc_tfile.specs.Items.{Item, HeadItem, PartItem, RowItem, ChangeItem, EndItem, StopItem, EntryItem, BlockItem, TailItem, item_code, offset_code, IsItem, bytes_code}
-use Rattle.rc_tfile.specs.Before.{ItemsBefore, Behind, item_place}
-use Rattle.rc_tfile.specs.TableText.{ItemFits}
+use Rattle.rc_items.specs.declared.blocks.Block.{Block}
+use Rattle.rc_items.specs.Items.{Item, HeadItem, PartItem, RowItem, ChangeItem, EndItem, StopItem, EntryItem, BlockItem, TailItem, item_code, offset_code, IsItem, bytes_code}
+use Rattle.rc_items.specs.Before.{ItemsBefore, Behind, item_place}
+use Rattle.rc_items.specs.TableText.{ItemFits}
 use Rattle.rc_tfile.proofs.Ahead.{head_within}
-use Rattle.rc_tfile.proofs.Unfit.{not_due}
+use Rattle.rc_items.specs.laws.Unfit.{not_due}
 
 length-offset : (n : ℕ) → length (offset_code n) ≡ 8
 unfolding offset_code

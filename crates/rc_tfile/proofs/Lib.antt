@@ -1,12 +1,7 @@
-pub mod Grouping
-pub mod Outlines
 pub mod Widths
 pub mod Limiting
-pub mod Heads
-pub mod Unfit
 pub mod Ahead
 pub mod Lengths
-pub mod SchemaLengths
 pub mod Turns
 pub mod Awaiting
 pub mod Partitions

@@ -19,13 +19,13 @@ use Rattle.rc_mutation.specs.Fragments.{fragments, static_fragment, is_written}
 use Rattle.rc_mutation.specs.Canonical.{IsCanonicalList, IsMutationOf}
 use Rattle.rc_mutation.specs.laws.Rebuilt.{is-rebuilt}
 use Rattle.rc_tfile.specs.declared.info.PartRef.{PartRef}
-use Rattle.rc_tfile.specs.declared.outline.Outline.{Outline}
-use Rattle.rc_tfile.specs.Items.{HeadItem, PartItem, RowItem, ChangeItem, EndItem, StopItem, EntryItem, BlockItem, TailItem}
-use Rattle.rc_tfile.specs.Before.{ItemsBefore, offset, ItemPlace, Start, Between, Inside, Behind, item_place, text, followed_by, last_pos, tomb_in_force}
-use Rattle.rc_tfile.specs.Blocks.{entries, ending}
-use Rattle.rc_tfile.specs.TableText.{AllFit, frag_items, part_items, items_to_stop}
+use Rattle.rc_items.specs.declared.outline.Outline.{Outline}
+use Rattle.rc_items.specs.Items.{HeadItem, PartItem, RowItem, ChangeItem, EndItem, StopItem, EntryItem, BlockItem, TailItem}
+use Rattle.rc_items.specs.Before.{ItemsBefore, offset, ItemPlace, Start, Between, Inside, Behind, item_place, text, followed_by, last_pos, tomb_in_force}
+use Rattle.rc_items.specs.Blocks.{entries, ending}
+use Rattle.rc_items.specs.TableText.{AllFit, frag_items, part_items, items_to_stop}
 use Rattle.rc_tfile.specs.Info.{info_of, refs_from}
-use Rattle.rc_tfile.specs.calls.Outlined.{IsListed}
+use Rattle.rc_items.specs.Outlined.{IsListed}
 use Rattle.rc_tfile.specs.Checking.{IsContent}
 use Rattle.rc_tfile.specs.Walking.{ChecksTable}
 use Rattle.rc_tfile.specs.calls.Walking.{IsWholeTable}

@@ -5,21 +5,21 @@ use Rattle.rc_outside.specs.Files.{Files}
 use Rattle.rc_schema.specs.SchemaValue.{SchemaValue}
 use Rattle.rc_tfile.specs.declared.checking.CheckErr.{CheckErr}
 use Rattle.rc_tfile.specs.declared.checking.CheckErr.TheVariants.{Fault, Damaged, OtherSchema, NoMemory}
-use Rattle.rc_tfile.specs.declared.outline.Outline.{Outline}
-use Rattle.rc_tfile.specs.declared.stepping.Next.TheVariants as next
-use Rattle.rc_tfile.specs.Items.{Item, HeadItem, PartItem, RowItem, ChangeItem, EndItem, StopItem, EntryItem, BlockItem, TailItem, item_code, IsItem}
-use Rattle.rc_tfile.specs.Before.{ItemsBefore, Start, Behind, text, offset, item_place}
-use Rattle.rc_tfile.specs.TableText.{ItemFits, AllFit, IsOtherSchema, FirstDamage}
-use Rattle.rc_tfile.specs.calls.Outlined.{IsOutline, outline_place}
+use Rattle.rc_items.specs.declared.outline.Outline.{Outline}
+use Rattle.rc_items.specs.declared.stepping.Next.TheVariants as next
+use Rattle.rc_items.specs.Items.{Item, HeadItem, PartItem, RowItem, ChangeItem, EndItem, StopItem, EntryItem, BlockItem, TailItem, item_code, IsItem}
+use Rattle.rc_items.specs.Before.{ItemsBefore, Start, Behind, text, offset, item_place}
+use Rattle.rc_items.specs.TableText.{ItemFits, AllFit, IsOtherSchema, FirstDamage}
+use Rattle.rc_items.specs.Outlined.{IsOutline, outline_place}
 use Rattle.rc_tfile.specs.Checking.{ChecksHead, AsksFew}
-use Rattle.rc_tfile.specs.calls.Checking.{IsNextItem}
-use Rattle.rc_tfile.specs.Reading.{Starts}
+use Rattle.rc_items.specs.Stepping.{IsNextItem}
+use Rattle.rc_items.specs.Reading.{Starts}
 use Rattle.rc_tfile.specs.calls.Windows.{ReadAhead, IsAhead, IsItemAhead, IsAheadIn, looked_past, reads_left}
 use Rattle.rc_tfile.specs.Walking.{IsRefusalOf}
 use Rattle.rc_tfile.specs.calls.Walking.{EndsWithTail, IsCheckRefused, StandsAhead, Stopped}
 use Rattle.rc_tfile.proofs.Ahead.{ahead_decides}
-use Rattle.rc_tfile.proofs.Heads.{one_schema}
-use Rattle.rc_tfile.proofs.Unfit.{Nothing, between_no_start, inside_no_start}
+use Rattle.rc_items.specs.laws.Heads.{one_schema}
+use Rattle.rc_items.specs.laws.Unfit.{Nothing, between_no_start, inside_no_start}
 use Rattle.rc_tfile.proofs.Lengths.{fits_within, some_bytes}
 
 -- ---- bytes that were looked at

@@ -4,12 +4,12 @@ use Rattle.std.proofs.lemmas.List.{take_rest}
 use Rattle.std.specs.List.{flat_map, AllByRecursion}
 use Rattle.rc_schema.specs.SchemaValue.{SchemaValue}
 use Rattle.rc_mutation.specs.declared.mutations.Partition.{Partition}
-use Rattle.rc_tfile.specs.declared.outline.Outline.{Outline}
-use Rattle.rc_tfile.specs.Items.{Item, HeadItem, StopItem, TailItem, IsItem}
-use Rattle.rc_tfile.specs.Before.{ItemsBefore, offset, followed_by}
-use Rattle.rc_tfile.specs.Blocks.{DirectoryEntry, entries, entry_items, ending}
-use Rattle.rc_tfile.specs.calls.Outlined.{IsListed}
-use Rattle.rc_tfile.specs.TableText.{part_items, whole_table}
+use Rattle.rc_items.specs.declared.outline.Outline.{Outline}
+use Rattle.rc_items.specs.Items.{Item, HeadItem, StopItem, TailItem, IsItem}
+use Rattle.rc_items.specs.Before.{ItemsBefore, offset, followed_by}
+use Rattle.rc_items.specs.Blocks.{DirectoryEntry, entries, entry_items, ending}
+use Rattle.rc_items.specs.Outlined.{IsListed}
+use Rattle.rc_items.specs.TableText.{part_items, whole_table}
 use Rattle.rc_tfile.specs.laws.Follows.{all_append}
 use Rattle.rc_tfile.specs.laws.Drafts.{parts_of, body_is}
 

@@ -5,7 +5,7 @@ use Rattle.rc_outside.specs.Files.{Files}
 use Rattle.rc_schema.specs.SchemaValue.{SchemaValue}
 use Rattle.rc_tfile.specs.declared.checking.CheckErr.{CheckErr}
 use Rattle.rc_tfile.specs.declared.checking.CheckErr.TheVariants.{Fault, Damaged, OtherSchema, NoMemory}
-use Rattle.rc_tfile.specs.Items.{HeadItem, item_code, IsItem}
+use Rattle.rc_items.specs.Items.{HeadItem, item_code, IsItem}
 
 -- file n has these bytes, where the files are told
 abbrev pub IsContent : Option Files → ℕ → List ℕ → Type 0

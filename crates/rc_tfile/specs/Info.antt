@@ -5,10 +5,10 @@ use Rattle.rc_schema.specs.SchemaValue.{SchemaValue}
 use Rattle.rc_mutation.specs.declared.mutations.Partition.{Partition}
 use Rattle.rc_tfile.specs.declared.info.PartRef.{PartRef}
 use Rattle.rc_tfile.specs.declared.info.TableInfo.{TableInfo}
-use Rattle.rc_tfile.specs.Items.{item_code}
-use Rattle.rc_tfile.specs.Before.{offset}
-use Rattle.rc_tfile.specs.Blocks.{DirectoryEntry, entry_items, entries}
-use Rattle.rc_tfile.specs.TableText.{items_to_stop}
+use Rattle.rc_items.specs.Items.{item_code}
+use Rattle.rc_items.specs.Before.{offset}
+use Rattle.rc_items.specs.Blocks.{DirectoryEntry, entry_items, entries}
+use Rattle.rc_items.specs.TableText.{items_to_stop}
 
 -- where the directory lists partitions, the first at an offset: one behind another, each with as many bytes as its items take
 abbrev pub refs_from : ℕ → List DirectoryEntry → List PartRef

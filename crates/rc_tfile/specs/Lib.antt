@@ -1,11 +1,12 @@
 pub mod calls
-pub mod Items
-pub mod Before
-pub mod Blocks
-pub mod TableText
+pub use Rattle.rc_items.specs.Items
+pub use Rattle.rc_items.specs.Before
+pub use Rattle.rc_items.specs.Blocks
+pub use Rattle.rc_items.specs.TableText
 pub mod Info
 pub mod Stored
-pub mod Reading
+pub use Rattle.rc_items.specs.Reading
+pub use Rattle.rc_items.specs.declared.reading.Part
 pub mod Checking
 pub mod Walking
 pub mod laws

@@ -7,7 +7,7 @@ use Rattle.rc_mutation.specs.Source.{IsMutation}
 use Rattle.rc_tfile.specs.declared.info.TableInfo.{TableInfo}
 use Rattle.rc_tfile.specs.declared.checking.CheckErr.{CheckErr}
 use Rattle.rc_tfile.specs.declared.checking.CheckErr.TheVariants.{Fault, Damaged, OtherSchema, NoMemory}
-use Rattle.rc_tfile.specs.TableText.{IsTable, IsOtherSchema, FirstDamage}
+use Rattle.rc_items.specs.TableText.{IsTable, IsOtherSchema, FirstDamage}
 use Rattle.rc_tfile.specs.Info.{info_of}
 
 -- what a refusal says of these bytes

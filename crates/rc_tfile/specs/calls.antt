@@ -1,8 +1,6 @@
 -- What inner functions of this crate promise each other; no public clause speaks of it.
 pub mod Limits
-pub mod Outlined
 pub mod Windows
 pub mod Checking
-pub mod Reading
 pub mod Stored
 pub mod Walking

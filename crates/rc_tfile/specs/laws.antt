@@ -2,4 +2,4 @@
 pub mod Follows
 pub mod Drafts
 pub mod Standing
-pub mod Starting
+pub use Rattle.rc_items.specs.laws.Starting

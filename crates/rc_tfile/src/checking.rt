@@ -2,15 +2,15 @@
 
 ghost use Rattle.std.specs.Prelude.{◌≡◌, ◌≢◌, ◌≤◌, ◌+◌, ℕ, List, [], length, Some, Err, IfOk, OnOk};
 ghost use Rattle.rc_outside.specs.Files.{HoldsSameFiles, IsFile};
-ghost use Rattle.rc_tfile.specs.Items.{item_code, HeadItem, IsItem};
-ghost use Rattle.rc_tfile.specs.Reading.{Starts};
+ghost use Rattle.rc_items.specs.Items.{item_code, HeadItem, IsItem};
+ghost use Rattle.rc_items.specs.Reading.{Starts};
 ghost use Rattle.rc_tfile.specs.calls.Windows.{IsOpen, IsAheadIn, reads_left};
 ghost use Rattle.rc_outside.specs.Faults.{RisesIfFault};
 ghost use Rattle.rc_tfile.specs.Checking.{IsContent, ChecksHead, AsksFew, OnCheckFault};
 ghost use Rattle.rc_tfile.specs.calls.Checking.{ChecksSized};
 
-use crate::reading::read_head;
 use crate::window::Window;
+use rc_items::read_head;
 use rc_outside::Store;
 use rc_schema::Schema;
 use std::alloc::Global;

@@ -3,15 +3,13 @@
 ghost use Rattle.std.specs.Prelude.{◌≡◌, ◌≤◌, ◌++◌, IfOk, OnOk, map, length};
 ghost use Rattle.std.specs.List.{flat_map, AllByRecursion};
 ghost use Rattle.rc_rowcode.specs.Spelling.{KeyFits};
-ghost use Rattle.rc_tfile.specs.Items.{item_code, EntryItem, BlockItem, TailItem, IsItem};
-ghost use Rattle.rc_tfile.specs.Blocks.{entry_items};
+ghost use Rattle.rc_items.specs.Items.{item_code, EntryItem, BlockItem, TailItem, IsItem};
+ghost use Rattle.rc_items.specs.Blocks.{entry_items};
 ghost use Rattle.rc_tfile.specs.Info.{refs_from};
 ghost use Rattle.rc_tfile.specs.calls.Windows.{largest};
 
-use crate::blocks::{Block, Listed};
 use crate::info::{PartRef, PartRefs};
-use crate::outline::{further, short};
-use crate::spelling::{append_block, append_entry, append_tail};
+use rc_items::{Block, Listed, append_block, append_entry, append_tail, further, short};
 use std::alloc::{AllocError, Global};
 
 /// The tail: the offset of the first directory item, and how many partitions there are.

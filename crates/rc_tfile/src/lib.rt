@@ -2,15 +2,10 @@
 //! alone or whole.
 #![tactic(auto)]
 
-mod blocks;
 mod checking;
 mod directory;
 mod fitting;
 mod info;
-mod outline;
-mod reading;
-mod spelling;
-mod stepping;
 mod walking;
 mod window;
 mod writing;
@@ -18,6 +13,6 @@ mod writing;
 pub use checking::{CheckErr, read_schema};
 pub use fitting::part_fits;
 pub use info::{PartRef, PartRefs, TableInfo};
-pub use reading::{Part, behind, read_change, read_part, read_part_key, read_row_item};
+pub use rc_items::{Part, behind, read_change, read_part, read_part_key, read_row_item};
 pub use walking::check_table;
 pub use writing::{WriteErr, plan_table, write_table};

@@ -6,23 +6,23 @@ ghost use Rattle.rc_position.specs.Position.{row_pos};
 ghost use Rattle.rc_outside.specs.Files.{IsNoFile, grown_draft};
 ghost use Rattle.rc_rowcode.specs.Spelling.{KeyFits, RowFits};
 ghost use Rattle.rc_writes.specs.Limits.{IsWithinLimits};
-ghost use Rattle.rc_tfile.specs.Items.{item_code, HeadItem, RowItem, ChangeItem, StopItem, TailItem, IsItem};
-ghost use Rattle.rc_tfile.specs.Before.{ItemsBefore, followed_by, text};
-ghost use Rattle.rc_tfile.specs.Blocks.{entry_items, ending};
+ghost use Rattle.rc_items.specs.Items.{item_code, HeadItem, RowItem, ChangeItem, StopItem, TailItem, IsItem};
+ghost use Rattle.rc_items.specs.Before.{ItemsBefore, followed_by, text};
+ghost use Rattle.rc_items.specs.Blocks.{entry_items, ending};
 ghost use Rattle.rc_tfile.specs.Info.{info_of};
-ghost use Rattle.rc_tfile.specs.calls.Outlined.{IsListed, IsOutline};
+ghost use Rattle.rc_items.specs.Outlined.{IsListed, IsOutline};
 ghost use Rattle.rc_outside.specs.Faults.{RisesIfFault};
 ghost use Rattle.rc_tfile.specs.Stored.{with_file, OnWriteFault};
 ghost use Rattle.rc_tfile.specs.calls.Stored.{write_err_of};
 ghost use Rattle.rc_tfile.specs.calls.Limits.{FragFits};
-ghost use Rattle.rc_tfile.specs.TableText.{frag_items, part_items, whole_table, PartsFit};
+ghost use Rattle.rc_items.specs.TableText.{frag_items, part_items, whole_table, PartsFit};
 
-use crate::blocks::Listed;
 use crate::directory::{refs_of, spell_entry, tail_of};
 use crate::info::TableInfo;
-use crate::outline::Outline;
-use crate::spelling::{END, STOP, append_change, append_head, append_part, append_row};
 use rc_cell::{Row, Tomb};
+use rc_items::{
+    END, Listed, Outline, STOP, append_change, append_head, append_part, append_row, row_pos,
+};
 use rc_mutation::{Frag, Partition};
 use rc_outside::{Store, StoreErr};
 use rc_position::{Key, Pos, Weight};
@@ -50,16 +50,6 @@ fn refused(err: StoreErr) -> WriteErr
         StoreErr::Fault => WriteErr::Fault,
         StoreErr::NoMemory => WriteErr::NoMemory,
     }
-}
-
-/// Where the row of a key stands. The only error is want of memory.
-pub(crate) fn row_pos(alloc: Global, key: &Key) -> Result<Pos, AllocError>
-    ensures { IfOk result (λ x. x ≡ row_pos key.now) }
-{
-    Ok(Pos {
-        prefix: key.copy(alloc)?,
-        weight: Weight::At,
-    })
 }
 
 // The row of a key, appended and taken into the outline.

@@ -9,12 +9,12 @@ use Rattle.rc_outside.specs.Files.{Files}
 use Rattle.rc_schema.specs.SchemaValue.{SchemaValue}
 use Rattle.rc_tfile.specs.declared.checking.CheckErr.{CheckErr}
 use Rattle.rc_tfile.specs.declared.checking.CheckErr.TheVariants.{Fault, Damaged, OtherSchema, NoMemory}
-use Rattle.rc_tfile.specs.declared.outline.Outline.{Outline}
-use Rattle.rc_tfile.specs.Items.{Item, StopItem, TailItem}
-use Rattle.rc_tfile.specs.Before.{ItemsBefore, Behind, text, item_place, followed_by}
-use Rattle.rc_tfile.specs.Blocks.{ending, items_due}
-use Rattle.rc_tfile.specs.TableText.{AllFit}
-use Rattle.rc_tfile.specs.calls.Outlined.{IsOutline, IsListed}
+use Rattle.rc_items.specs.declared.outline.Outline.{Outline}
+use Rattle.rc_items.specs.Items.{Item, StopItem, TailItem}
+use Rattle.rc_items.specs.Before.{ItemsBefore, Behind, text, item_place, followed_by}
+use Rattle.rc_items.specs.Blocks.{ending, items_due}
+use Rattle.rc_items.specs.TableText.{AllFit}
+use Rattle.rc_items.specs.Outlined.{IsOutline, IsListed}
 use Rattle.rc_tfile.specs.Checking.{IsContent}
 use Rattle.rc_tfile.specs.calls.Windows.{ReadAhead, IsAheadIn}
 use Rattle.rc_tfile.specs.Walking.{IsRefusalOf}

@@ -4,16 +4,16 @@ use Rattle.std.specs.Prelude.{IsSome}
 use Rattle.rc_outside.specs.Files.{Draft, Files, grown_draft, new_draft, with_draft}
 use Rattle.std.specs.List.{flat_map}
 use Rattle.std.proofs.lemmas.Grind.{flat_map-append}
-use Rattle.rc_tfile.specs.declared.outline.Outline.{Outline}
-use Rattle.rc_tfile.specs.Items.{HeadItem, StopItem, TailItem, item_code}
+use Rattle.rc_items.specs.declared.outline.Outline.{Outline}
+use Rattle.rc_items.specs.Items.{HeadItem, StopItem, TailItem, item_code}
 use Rattle.rc_schema.specs.SchemaValue.{SchemaValue}
 use Rattle.rc_mutation.specs.declared.mutations.Partition.{Partition}
-use Rattle.rc_tfile.specs.Before.{ItemsBefore, text, offset, followed_by}
-use Rattle.rc_tfile.specs.TableText.{part_items, items_to_stop, whole_table}
+use Rattle.rc_items.specs.Before.{ItemsBefore, text, offset, followed_by}
+use Rattle.rc_items.specs.TableText.{part_items, items_to_stop, whole_table}
 use Rattle.rc_tfile.specs.Info.{refs_from}
 use Rattle.rc_tfile.specs.laws.Follows.{followed_by-append, text-followed_by}
-use Rattle.rc_tfile.specs.Blocks.{entries, entry_items, ending}
-use Rattle.rc_tfile.specs.calls.Outlined.{IsListed}
+use Rattle.rc_items.specs.Blocks.{entries, entry_items, ending}
+use Rattle.rc_items.specs.Outlined.{IsListed}
 use Rattle.rc_tfile.specs.Stored.{with_file}
 
 back : (xs : List ℕ) → xs ≡ xs ++ []

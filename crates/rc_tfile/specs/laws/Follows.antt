@@ -4,8 +4,8 @@ use Rattle.std.specs.Prelude.{All}
 use Rattle.std.specs.List.{flat_map, AllByRecursion}
 use Rattle.std.proofs.lemmas.Grind.{flat_map-append}
 use Rattle.std.proofs.lemmas.List.{take_more, take_rest}
-use Rattle.rc_tfile.specs.Items.{Item, item_code}
-use Rattle.rc_tfile.specs.Before.{ItemsBefore, text, followed_by}
+use Rattle.rc_items.specs.Items.{Item, item_code}
+use Rattle.rc_items.specs.Before.{ItemsBefore, text, followed_by}
 
 -- what each of one more gives comes last
 pub one_more : {X A : Type 0} (f : X → List A) (xs : List X) (i : ℕ) (x : X) → i < length xs → x ≡ get_or xs i x → flat_map f (take (i + 1) xs) ≡ flat_map f (take i xs) ++ f x

@@ -25,10 +25,10 @@ use Rattle.rc_mutation.specs.laws.FragMerge.{merge, merge_into, fragment_of, mer
 use Rattle.rc_writes.specs.Allowed.{ChangeFits, IsRangeBound, IsRowOf}
 use Rattle.rc_mutation.specs.Canonical.{IsBounded, IsCanonicalList}
 use Rattle.rc_mutation.specs.laws.CanonicalListed.{listed}
-use Rattle.rc_tfile.specs.Items.{Item, HeadItem, PartItem, RowItem, ChangeItem, EndItem, StopItem, EntryItem, BlockItem, TailItem, IsItem}
-use Rattle.rc_tfile.specs.Before.{ItemsBefore, Between, Inside, text, offset, followed_by, item_place, last_part, last_pos, tomb_in_force}
-use Rattle.rc_tfile.specs.Blocks.{DirectoryEntry, entries, entry_items, ending, items_due}
-use Rattle.rc_tfile.specs.TableText.{MayStand, AllFit, frag_items, part_items, items_to_stop, whole_table, IsTable, PartsFit}
+use Rattle.rc_items.specs.Items.{Item, HeadItem, PartItem, RowItem, ChangeItem, EndItem, StopItem, EntryItem, BlockItem, TailItem, IsItem}
+use Rattle.rc_items.specs.Before.{ItemsBefore, Between, Inside, text, offset, followed_by, item_place, last_part, last_pos, tomb_in_force}
+use Rattle.rc_items.specs.Blocks.{DirectoryEntry, entries, entry_items, ending, items_due}
+use Rattle.rc_items.specs.TableText.{MayStand, AllFit, frag_items, part_items, items_to_stop, whole_table, IsTable, PartsFit}
 use Rattle.rc_tfile.specs.laws.Drafts.{parts_of, body_is}
 use Rattle.rc_tfile.specs.laws.Follows.{all_append, by_recursion}
 

@@ -6,7 +6,7 @@ use Rattle.std.specs.Option.{option_map}
 use Rattle.std.proofs.lemmas.List.{take_rest, drop_at}
 use Rattle.rc_mutation.specs.declared.fragments.Frag.{Frag}
 use Rattle.rc_mutation.specs.declared.mutations.Mutation.{Mutation}
-use Rattle.rc_tfile.specs.declared.reading.Part.{Part}
+use Rattle.rc_tfile.specs.Part.{Part}
 use Rattle.rc_tfile.specs.Items.{PartItem, item_code}
 use Rattle.rc_tfile.specs.Reading.{Starts}
 use Rattle.rc_writes.specs.Allowed.{IsStaticOf}

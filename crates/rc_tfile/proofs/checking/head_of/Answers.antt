@@ -1,7 +1,7 @@
 -- What is ahead at the start decides which head the file has.
 use Rattle.std.proofs.Common.{List, ℕ, [], Some, None, subst, refl}
-use Rattle.rc_tfile.specs.Items.{HeadItem, item_code, IsItem}
-use Rattle.rc_tfile.specs.Reading.{Starts}
+use Rattle.rc_items.specs.Items.{HeadItem, item_code, IsItem}
+use Rattle.rc_items.specs.Reading.{Starts}
 use Rattle.rc_tfile.proofs.Ahead.{head_found, no_head}
 use Rattle.rc_tfile.proofs.checking.head_of.Goals as goal
 

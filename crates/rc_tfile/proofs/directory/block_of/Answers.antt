@@ -1,6 +1,6 @@
 -- No item is longer than what is read at once.
 use Rattle.std.proofs.Common.{◌≡◌, length, ap, arith, rules}
-use Rattle.rc_tfile.specs.Items.{item_code, BlockItem}
+use Rattle.rc_items.specs.Items.{item_code, BlockItem}
 use Rattle.rc_tfile.proofs.Lengths.{block_within}
 use Rattle.rc_tfile.proofs.directory.block_of.Goals as goal
 

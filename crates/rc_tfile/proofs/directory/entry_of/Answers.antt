@@ -1,6 +1,6 @@
 -- No item is longer than what is read at once.
 use Rattle.std.proofs.Common.{◌≡◌, ◌≤◌, ℕ, List, length, ap, subst, arith, rules}
-use Rattle.rc_tfile.specs.Items.{item_code, EntryItem}
+use Rattle.rc_items.specs.Items.{item_code, EntryItem}
 use Rattle.rc_tfile.proofs.Lengths.{entry_within}
 use Rattle.rc_tfile.proofs.directory.entry_of.Goals as goal
 

@@ -1,8 +1,8 @@
 -- The references so far, with those of the entries that are left, are those of all.
 use Rattle.std.proofs.Common.{◌≡◌, ◌++◌, length}
 use Rattle.std.specs.List.{flat_map, AllByRecursion}
-use Rattle.rc_tfile.specs.Items.{IsItem}
-use Rattle.rc_tfile.specs.Blocks.{entry_items}
+use Rattle.rc_items.specs.Items.{IsItem}
+use Rattle.rc_items.specs.Blocks.{entry_items}
 use Rattle.rc_tfile.specs.Info.{refs_from}
 use Rattle.rc_tfile.proofs.directory.refs_of.Given as goal
 

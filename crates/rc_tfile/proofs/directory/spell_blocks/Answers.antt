@@ -2,8 +2,8 @@
 use Rattle.std.proofs.Common.{◌≡◌, ◌++◌, ◌∷◌, ◌∙◌, ◌-◌, List, map, take, drop, length, ap, sym, subst, append_assoc}
 use Rattle.std.specs.List.{flat_map, AllByRecursion}
 use Rattle.rc_rowcode.specs.Spelling.{KeyFits}
-use Rattle.rc_tfile.specs.declared.blocks.Block.{Block}
-use Rattle.rc_tfile.specs.Items.{item_code, BlockItem}
+use Rattle.rc_items.specs.declared.blocks.Block.{Block}
+use Rattle.rc_items.specs.Items.{item_code, BlockItem}
 use Rattle.rc_tfile.proofs.Widths.{AreItems, split}
 use Rattle.rc_tfile.proofs.directory.spell_blocks.Goals as goal
 

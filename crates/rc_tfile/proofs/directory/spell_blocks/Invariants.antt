@@ -2,7 +2,7 @@
 use Rattle.std.proofs.Common.{◌≡◌, ◌++◌, map, length}
 use Rattle.std.specs.List.{flat_map, AllByRecursion}
 use Rattle.rc_rowcode.specs.Spelling.{KeyFits}
-use Rattle.rc_tfile.specs.Items.{item_code, BlockItem, IsItem}
+use Rattle.rc_items.specs.Items.{item_code, BlockItem, IsItem}
 use Rattle.rc_tfile.proofs.directory.spell_blocks.Given as goal
 
 abbrev pub invariant-loop-left : goal.invariant-loop-left

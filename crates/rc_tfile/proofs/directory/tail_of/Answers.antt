@@ -1,6 +1,6 @@
 -- No item is longer than what is read at once.
 use Rattle.std.proofs.Common.{◌≡◌, length, ap, arith, rules}
-use Rattle.rc_tfile.specs.Items.{item_code, TailItem}
+use Rattle.rc_items.specs.Items.{item_code, TailItem}
 use Rattle.rc_tfile.proofs.Lengths.{tail_within}
 use Rattle.rc_tfile.proofs.directory.tail_of.Goals as goal
 

@@ -1,8 +1,8 @@
 -- The first of those that are left comes next.
 use Rattle.std.proofs.Common.{◌-◌, ◌++◌, List, length, take, drop, map as list_map, subst}
 use Rattle.std.proofs.lemmas.Result.{err_from_is_err_and}
-use Rattle.rc_tfile.specs.declared.blocks.Block.{Block}
-use Rattle.rc_tfile.specs.Items.{BlockItem}
+use Rattle.rc_items.specs.declared.blocks.Block.{Block}
+use Rattle.rc_items.specs.Items.{BlockItem}
 use Rattle.rc_tfile.specs.calls.Walking.{Awaits}
 use Rattle.rc_tfile.specs.laws.Follows.{first_and_rest}
 use Rattle.rc_tfile.proofs.walking.check_blocks.Goals as goal

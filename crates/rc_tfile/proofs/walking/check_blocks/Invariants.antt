@@ -3,8 +3,8 @@ use Rattle.std.proofs.Common.{◌≡◌, ◌≤◌, ◌+◌, ◌++◌, List, len
 use Rattle.std.specs.List.{AllByRecursion}
 use Rattle.rc_rowcode.specs.Spelling.{KeyFits}
 use Rattle.rc_schema.specs.SchemaValue.{SchemaValue}
-use Rattle.rc_tfile.specs.Items.{Item, BlockItem}
-use Rattle.rc_tfile.specs.Before.{ItemsBefore}
+use Rattle.rc_items.specs.Items.{Item, BlockItem}
+use Rattle.rc_items.specs.Before.{ItemsBefore}
 use Rattle.rc_tfile.specs.calls.Windows.{IsOpen, reads_left}
 use Rattle.rc_tfile.specs.calls.Walking.{Awaits}
 use Rattle.rc_tfile.proofs.walking.check_blocks.Given as goal

@@ -2,8 +2,8 @@
 use Rattle.std.proofs.Common.{◌-◌, ◌++◌, List, length, take, drop, subst, append_assoc}
 use Rattle.std.specs.List.{flat_map}
 use Rattle.std.proofs.lemmas.Result.{err_from_is_err_and}
-use Rattle.rc_tfile.specs.Items.{Item}
-use Rattle.rc_tfile.specs.Blocks.{DirectoryEntry, entry_items}
+use Rattle.rc_items.specs.Items.{Item}
+use Rattle.rc_items.specs.Blocks.{DirectoryEntry, entry_items}
 use Rattle.rc_tfile.specs.calls.Walking.{Awaits}
 use Rattle.rc_tfile.specs.laws.Follows.{first_and_rest}
 use Rattle.rc_tfile.proofs.walking.check_directory.Goals as goal

@@ -1,10 +1,10 @@
 -- Those that are left are still to come.
 use Rattle.std.proofs.Common.{◌≡◌, ◌≤◌, ◌+◌, ◌++◌, List, length}
 use Rattle.std.specs.List.{flat_map}
-use Rattle.rc_tfile.specs.Blocks.{entry_items}
+use Rattle.rc_items.specs.Blocks.{entry_items}
 use Rattle.rc_schema.specs.SchemaValue.{SchemaValue}
-use Rattle.rc_tfile.specs.Items.{Item}
-use Rattle.rc_tfile.specs.Before.{ItemsBefore}
+use Rattle.rc_items.specs.Items.{Item}
+use Rattle.rc_items.specs.Before.{ItemsBefore}
 use Rattle.rc_tfile.specs.calls.Windows.{IsOpen, reads_left}
 use Rattle.rc_tfile.specs.calls.Walking.{Awaits}
 use Rattle.rc_tfile.proofs.walking.check_directory.Given as goal

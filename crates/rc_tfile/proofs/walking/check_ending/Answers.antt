@@ -2,8 +2,8 @@
 use Rattle.std.proofs.Common.{◌≡◌, rules, [], ◌∷◌, ◌++◌, ◌∙◌, List, length, subst, sym, append-nil, Ok, Err}
 use Rattle.std.specs.List.{flat_map}
 use Rattle.std.proofs.lemmas.Result.{err_from_is_err_and}
-use Rattle.rc_tfile.specs.Items.{Item, TailItem}
-use Rattle.rc_tfile.specs.Blocks.{DirectoryEntry, entry_items}
+use Rattle.rc_items.specs.Items.{Item, TailItem}
+use Rattle.rc_items.specs.Blocks.{DirectoryEntry, entry_items}
 use Rattle.rc_tfile.specs.calls.Walking.{Awaits, Expects}
 use Rattle.rc_tfile.proofs.Awaiting.{both_come, ended_there, ending_is}
 use Rattle.rc_tfile.proofs.walking.check_ending.Goals as goal

@@ -1,7 +1,7 @@
 -- One item more, the stop, or none that fits.
 use Rattle.std.proofs.Common.{List, ℕ, subst}
-use Rattle.rc_tfile.specs.Before.{text}
-use Rattle.rc_tfile.proofs.Unfit.{Nothing}
+use Rattle.rc_items.specs.Before.{text}
+use Rattle.rc_items.specs.laws.Unfit.{Nothing}
 use Rattle.rc_tfile.proofs.Turns.{item_more, stop_next, item_damage}
 use Rattle.rc_tfile.proofs.walking.check_item.Goals as goal
 

@@ -1,7 +1,7 @@
 -- What stands behind the stop is decided by what stands before it.
 use Rattle.std.proofs.Common.{◌∷◌}
 use Rattle.std.proofs.lemmas.Result.{err_from_is_err_and}
-use Rattle.rc_tfile.specs.Items.{StopItem}
+use Rattle.rc_items.specs.Items.{StopItem}
 use Rattle.rc_tfile.proofs.Awaiting.{at_stop}
 use Rattle.rc_tfile.proofs.walking.check_items.Goals as goal
 

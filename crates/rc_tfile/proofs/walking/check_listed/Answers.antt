@@ -1,8 +1,8 @@
 -- The partition's item, then those of its blocks.
 use Rattle.std.proofs.Common.{[], ◌∷◌, List, length, map as list_map, subst}
 use Rattle.std.proofs.lemmas.Result.{err_from_is_err_and}
-use Rattle.rc_tfile.specs.declared.blocks.Block.{Block}
-use Rattle.rc_tfile.specs.Items.{EntryItem, BlockItem}
+use Rattle.rc_items.specs.declared.blocks.Block.{Block}
+use Rattle.rc_items.specs.Items.{EntryItem, BlockItem}
 use Rattle.rc_tfile.specs.calls.Walking.{Expects}
 use Rattle.rc_tfile.proofs.Awaiting.{both_come, first_refused}
 use Rattle.rc_tfile.proofs.walking.check_listed.Goals as goal

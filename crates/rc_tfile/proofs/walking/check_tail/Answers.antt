@@ -1,6 +1,6 @@
 -- Its bytes come, so the item does.
 use Rattle.std.proofs.Common.{◌∙◌}
-use Rattle.rc_tfile.specs.Items.{TailItem}
+use Rattle.rc_items.specs.Items.{TailItem}
 use Rattle.rc_tfile.proofs.Awaiting.{item_expected}
 use Rattle.rc_tfile.proofs.walking.check_tail.Goals as goal
 

@@ -1,6 +1,6 @@
 -- The bytes are ahead, or the file goes on with others.
 use Rattle.std.proofs.Common.{length, refl, sym, ◌∙◌}
-use Rattle.rc_tfile.proofs.Unfit.{refuted}
+use Rattle.rc_items.specs.laws.Unfit.{refuted}
 use Rattle.rc_tfile.proofs.Turns.{told_past}
 use Rattle.rc_tfile.proofs.Awaiting.{miss}
 use Rattle.rc_tfile.proofs.walking.expect.Goals as goal

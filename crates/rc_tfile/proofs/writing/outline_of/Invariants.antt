@@ -1,10 +1,10 @@
 -- The partitions so far are taken into the outline.
 use Rattle.std.proofs.Common.{[], ◌∷◌, take}
 use Rattle.std.specs.List.{flat_map, AllByRecursion}
-use Rattle.rc_tfile.specs.Items.{HeadItem, IsItem}
-use Rattle.rc_tfile.specs.Before.{followed_by}
-use Rattle.rc_tfile.specs.calls.Outlined.{IsOutline}
-use Rattle.rc_tfile.specs.TableText.{part_items}
+use Rattle.rc_items.specs.Items.{HeadItem, IsItem}
+use Rattle.rc_items.specs.Before.{followed_by}
+use Rattle.rc_items.specs.Outlined.{IsOutline}
+use Rattle.rc_items.specs.TableText.{part_items}
 use Rattle.rc_tfile.proofs.writing.outline_of.Given as goal
 
 abbrev pub invariant-loop-part : goal.invariant-loop-part

@@ -1,7 +1,7 @@
 -- The outline's references are those of the table.
 use Rattle.std.proofs.Common.{ap, subst, arith, ◌∙◌}
 use Rattle.std.specs.List.{flat_map}
-use Rattle.rc_tfile.specs.Blocks.{entry_items}
+use Rattle.rc_items.specs.Blocks.{entry_items}
 use Rattle.rc_tfile.specs.Info.{refs_from}
 use Rattle.rc_writes.specs.laws.Within.{change-within}
 use Rattle.rc_tfile.specs.laws.Drafts.{refs_are, parts_of}

@@ -2,10 +2,10 @@
 use Rattle.std.proofs.Common.{◌≡◌, ◌+◌, ◌++◌, take, ap, sym, subst, ◌∙◌, append_assoc}
 use Rattle.std.specs.List.{flat_map}
 use Rattle.std.proofs.lemmas.Grind.{flat_map-append}
-use Rattle.rc_tfile.specs.Items.{item_code}
-use Rattle.rc_tfile.specs.Before.{followed_by}
-use Rattle.rc_tfile.specs.calls.Outlined.{IsOutline}
-use Rattle.rc_tfile.specs.TableText.{frag_items}
+use Rattle.rc_items.specs.Items.{item_code}
+use Rattle.rc_items.specs.Before.{followed_by}
+use Rattle.rc_items.specs.Outlined.{IsOutline}
+use Rattle.rc_items.specs.TableText.{frag_items}
 use Rattle.rc_tfile.specs.laws.Follows.{one_more, followed_by-append}
 use Rattle.rc_tfile.proofs.Widths.{more_items}
 use Rattle.rc_tfile.proofs.writing.spell_fragments.Goals as goal

@@ -2,10 +2,10 @@
 use Rattle.std.proofs.Common.{◌≡◌, ◌++◌, take}
 use Rattle.std.specs.Prelude.{IsSome}
 use Rattle.std.specs.List.{flat_map, AllByRecursion}
-use Rattle.rc_tfile.specs.Items.{item_code, IsItem}
-use Rattle.rc_tfile.specs.Before.{ItemsBefore, followed_by}
-use Rattle.rc_tfile.specs.calls.Outlined.{IsOutline}
-use Rattle.rc_tfile.specs.TableText.{frag_items}
+use Rattle.rc_items.specs.Items.{item_code, IsItem}
+use Rattle.rc_items.specs.Before.{ItemsBefore, followed_by}
+use Rattle.rc_items.specs.Outlined.{IsOutline}
+use Rattle.rc_items.specs.TableText.{frag_items}
 use Rattle.rc_tfile.proofs.writing.spell_fragments.Given as goal
 
 abbrev pub invariant-loop-frag : goal.invariant-loop-frag

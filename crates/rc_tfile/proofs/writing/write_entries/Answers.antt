@@ -3,8 +3,8 @@ use Rattle.std.proofs.Common.{◌≡◌, ◌+◌, ◌++◌, take, ap, sym, ◌�
 use Rattle.std.specs.List.{flat_map}
 use Rattle.std.proofs.lemmas.Grind.{flat_map-append}
 use Rattle.rc_outside.specs.Files.{grown_draft}
-use Rattle.rc_tfile.specs.Items.{item_code}
-use Rattle.rc_tfile.specs.Blocks.{entry_items}
+use Rattle.rc_items.specs.Items.{item_code}
+use Rattle.rc_items.specs.Blocks.{entry_items}
 use Rattle.rc_tfile.specs.laws.Follows.{one_more}
 use Rattle.rc_tfile.specs.laws.Drafts.{grown_more}
 use Rattle.rc_tfile.proofs.Widths.{more_items}

@@ -2,8 +2,8 @@
 use Rattle.std.proofs.Common.{◌≡◌, ◌≤◌, take}
 use Rattle.std.specs.List.{flat_map, AllByRecursion}
 use Rattle.rc_outside.specs.Files.{grown_draft}
-use Rattle.rc_tfile.specs.Items.{item_code, IsItem}
-use Rattle.rc_tfile.specs.Blocks.{entry_items}
+use Rattle.rc_items.specs.Items.{item_code, IsItem}
+use Rattle.rc_items.specs.Blocks.{entry_items}
 use Rattle.rc_tfile.proofs.writing.write_entries.Given as goal
 
 abbrev pub invariant-loop-listed : goal.invariant-loop-listed

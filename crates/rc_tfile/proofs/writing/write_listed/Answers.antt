@@ -3,8 +3,8 @@ use Rattle.std.proofs.Common.{ap, subst, ◌∙◌}
 use Rattle.std.specs.List.{flat_map}
 use Rattle.std.proofs.lemmas.Result.{on_ok_weaker}
 use Rattle.rc_outside.specs.Files.{grown_draft}
-use Rattle.rc_tfile.specs.Items.{item_code}
-use Rattle.rc_tfile.specs.Blocks.{entry_items}
+use Rattle.rc_items.specs.Items.{item_code}
+use Rattle.rc_items.specs.Blocks.{entry_items}
 use Rattle.rc_tfile.specs.laws.Drafts.{ending_built}
 use Rattle.rc_tfile.proofs.Widths.{AreItems, ending_items}
 use Rattle.rc_tfile.proofs.writing.write_listed.Goals as goal

@@ -3,12 +3,12 @@ use Rattle.std.proofs.Common.{◌≡◌, ◌+◌, ◌++◌, take, ap, sym, subst
 use Rattle.std.specs.List.{flat_map}
 use Rattle.std.proofs.lemmas.Grind.{flat_map-append}
 use Rattle.rc_outside.specs.Files.{grown_draft}
-use Rattle.rc_tfile.specs.Items.{item_code}
-use Rattle.rc_tfile.specs.Before.{followed_by}
+use Rattle.rc_items.specs.Items.{item_code}
+use Rattle.rc_items.specs.Before.{followed_by}
 use Rattle.rc_mutation.specs.declared.mutations.Partition.{Partition}
 use Rattle.rc_writes.specs.Limits.{IsWithinLimits}
-use Rattle.rc_tfile.specs.calls.Outlined.{IsOutline}
-use Rattle.rc_tfile.specs.TableText.{part_items}
+use Rattle.rc_items.specs.Outlined.{IsOutline}
+use Rattle.rc_items.specs.TableText.{part_items}
 use Rattle.rc_tfile.specs.laws.Follows.{one_more, followed_by-append}
 use Rattle.rc_tfile.specs.laws.Drafts.{grown_more}
 use Rattle.rc_tfile.proofs.Widths.{more_items}

@@ -2,10 +2,10 @@
 use Rattle.std.proofs.Common.{◌≡◌, ◌≤◌, take}
 use Rattle.std.specs.List.{flat_map, AllByRecursion}
 use Rattle.rc_outside.specs.Files.{grown_draft}
-use Rattle.rc_tfile.specs.Items.{item_code, IsItem}
-use Rattle.rc_tfile.specs.Before.{ItemsBefore, followed_by}
-use Rattle.rc_tfile.specs.calls.Outlined.{IsOutline}
-use Rattle.rc_tfile.specs.TableText.{part_items}
+use Rattle.rc_items.specs.Items.{item_code, IsItem}
+use Rattle.rc_items.specs.Before.{ItemsBefore, followed_by}
+use Rattle.rc_items.specs.Outlined.{IsOutline}
+use Rattle.rc_items.specs.TableText.{part_items}
 use Rattle.rc_tfile.proofs.writing.write_parts.Given as goal
 
 abbrev pub invariant-loop-part : goal.invariant-loop-part

@@ -1,0 +1,9 @@
+pub mod calls
+pub mod Items
+pub mod Before
+pub mod Blocks
+pub mod TableText
+pub mod Reading
+pub mod Outlined
+pub mod Stepping
+pub mod laws
