@@ -2,10 +2,12 @@
 --     Takes, Stops      it takes a step, or memory runs out
 --     most_asks          how many ranges it may ask for
 --     FaultsAreCounted      a reply that tells a fault comes only where the store failed
-use Rattle.std.specs.Prelude.{◌≡◌, ℕ, ◌+◌, ◌*◌, ◌/◌, ◌≤◌, ◌⊎◌, List, length, sum_by, Option, Result, IfOk, ⊤}
+use Rattle.std.specs.Prelude.{◌≡◌, ℕ, ◌+◌, ◌*◌, ◌/◌, ◌≤◌, ◌==◌, ◌⊎◌, List, length, sum_by, Option, Some, Result, IfOk, ⊤}
 use Rattle.std.specs.Option.{option_map_or}
+use Rattle.std.specs.Map.{set_value}
 use Rattle.rc_outside.specs.Files.{Files}
 use Rattle.rc_outside.specs.Faults.{Rose}
+use Rattle.rc_mutation.specs.declared.mutations.Mutation.{Mutation}
 use Rattle.rc_lines.specs.declared.commands.Command.{Command}
 use Rattle.rc_lines.specs.declared.commands.Command.TheVariants.{OpenRead, Read, Flush, FlushBegin}
 use Rattle.rc_lines.specs.declared.commands.Refusal.{Refusal}
@@ -14,12 +16,13 @@ use Rattle.rc_lines.specs.declared.commands.Reply.{Reply}
 use Rattle.rc_lines.specs.declared.commands.Reply.TheVariants.{Refused}
 use Rattle.rc_tables.specs.Tables.{listing}
 use Rattle.rc_machine.specs.State.{Reader, State, reader_of}
-use Rattle.rc_machine.specs.Steps.{Steps, sealing}
+use Rattle.rc_machine.specs.Steps.{IsResaid, Steps, sealing}
 
--- what want of memory leaves: a flush may have sealed the writes, nothing else changes
+-- what want of memory leaves: a flush may have sealed the writes, a read may have told its reader anew what the tables say, nothing else changes
 abbrev pub IsLeft : State → Command → State → Type 0
 IsLeft m Flush left = (left ≡ m) ⊎ (left ≡ record m { sealed = sealing m })
 IsLeft m FlushBegin left = (left ≡ m) ⊎ (left ≡ record m { sealed = sealing m })
+IsLeft m (Read id count) left = (left ≡ m) ⊎ ((r : Reader) × (said : List Mutation) × (reader_of id m ≡ Some r) × IsResaid m r said × (left ≡ record m { readers = set_value (λ k. k == id) m.readers (record r { said = said }) }))
 IsLeft m command left = left ≡ m
 
 -- What is kept stands over a store's files for a state, in a way of its own.

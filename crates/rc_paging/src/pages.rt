@@ -1,5 +1,5 @@
 //! Open readers over the row cache.
-ghost use Rattle.std.specs.Prelude.{◌≡◌, ◌++◌, ℕ, List, None, IfErr, IfOk, IsSome, length, take, nat_lt};
+ghost use Rattle.std.specs.Prelude.{◌≡◌, ◌++◌, ℕ, List, None, IfErr, IfOk, IsSome, OnOk, length, take, nat_lt};
 ghost use Rattle.rc_mutation.specs.declared.mutations.Mutation.{Mutation};
 ghost use Rattle.rc_schema.specs.SchemaValue.{SchemaValue};
 ghost use Rattle.rc_query.specs.declared.lines.OutLine.{OutLine};
@@ -42,6 +42,7 @@ impl OpenReader {
     /// A reader from the beginning of a slice on, of the partition of which these are the snapshots. It takes no memory, and reads nothing yet.
     pub fn open(held: HeldSnaps, slice: Slice) -> Self
         ensures held { result.held ≡ held }
+        ensures untold { result.behind ≡ None }
         ensures of { IsRemainderOf slice result.remainder }
         ensures lines { (S : ℕ) (m : Memory) (schema : SchemaValue) (below writes later : List Mutation) → AreChangesOf schema below → AreChangesOf schema writes → AreChangesOf schema later → StandFor S m held below writes later →
             LinesAreLeft S m result below (answer (below ++ (writes ++ later)) slice) }
@@ -71,6 +72,8 @@ impl OpenReader {
         ensures left { (below : List Mutation) (lines : List OutLine) → LinesAreLeft S chains.old self.old below lines → SayBelow below (readings_with read) → LinesAreLeft S chains.new self.new below (left_on result count lines) }
         ensures of { (slice : Part) → IsRemainderOf slice self.old.remainder → IsRemainderOf slice self.new.remainder }
         ensures held { self.new.held ≡ self.old.held }
+        ensures told { OnOk result (IsSome self.new.behind) }
+        ensures err { IfErr result (λ _. self.new.behind ≡ self.old.behind) }
         ensures missing { IfErr result (λ e. e ≡ Missing → IsSome self.old.held.cached × (read ≡ None)) }
         ensures known { IsKnownWhole chains.old self.old.held.cached → IfErr result (λ e. e ≡ NoMemory) }
         ensures quiet { IsKnownWhole chains.old self.old.held.cached → chains.new ≡ chains.old }
