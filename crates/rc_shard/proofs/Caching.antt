@@ -1,6 +1,6 @@
 -- What calls leave of the row cache, and of what memtables take.
 use Rattle.std.proofs.Common.{inl, inr, ◌≡◌, ◌≢◌, ◌≤◌, ◌+◌, ℕ, List, Option, Some, None, IsSome, refl, sym, ap, ◌∙◌, subst, le_refl, slice_index_or, arith}
-use Rattle.std.specs.Prelude.{Contains, IfSome, IsSomeAnd}
+use Rattle.std.specs.Prelude.{IfSome, IsSomeAnd}
 use Rattle.std.specs.Option.{option_map}
 use Rattle.rc_schema.specs.SchemaValue.{SchemaValue}
 use Rattle.rc_registry.specs.ChainKind.TheVariants.{Memtable}
@@ -10,7 +10,7 @@ use Rattle.rc_memory.specs.declared.counts.Counts.{Counts}
 use Rattle.rc_memory.specs.Memory.{IsSnapshotTaken, IsUntouched, KeptChain, Member, Memory, chain_at, snapshot_number, with_snapshot, without_snapshot}
 use Rattle.rc_memory.specs.laws.Places.{no_some, same_some}
 use Rattle.rc_chain.specs.declared.chains.Snap.{Snap}
-use Rattle.rc_lookup.specs.Evictions.{AreEvicted, evicted_of}
+use Rattle.rc_lookup.specs.Evictions.{AreEvicted}
 use Rattle.rc_lookup.specs.Partitions.{AreAsBefore, IsAsBefore}
 use Rattle.rc_snapshots.specs.Seeing.{HasSnap}
 use Rattle.rc_snapshots.specs.Snapshots.{kind_in, kind_seen}
@@ -18,14 +18,15 @@ use Rattle.rc_lookup.specs.Readers.{IsReleased, IsReleasedIf, IsTakenIf, taken_b
 use Rattle.rc_lookup.specs.Entries.{AreEntries, LeavesCached}
 use Rattle.rc_lookup.specs.Leaving.{AreCachesSame}
 use Rattle.rc_lookup.specs.Saying.{Below, CacheSays}
-use Rattle.rc_lookup.specs.Footprint.{AreInUse, HaveOneVersion, memtable_bytes}
+use Rattle.rc_lookup.specs.Footprint.{AreInUse, HaveOneVersion, cache_snapshots, memtable_bytes}
 use Rattle.rc_lookup.specs.Fillers.{losses}
 use Rattle.rc_lookup.specs.LetGo.{NoCountFell, TakesNoMore}
 use Rattle.rc_lookup.specs.laws.Lost.{each-chain-stays}
 use Rattle.rc_lookup.specs.laws.Staying.{content-then, same-content}
 use Rattle.rc_stream.specs.Snapshot.{NoneLost}
+use Rattle.rc_shard.specs.Releasing.{KeepsSnapshots}
 use Rattle.rc_shard.specs.calls.Caching.{AreStillThere, KeepsCache, LeavesCache}
-use Rattle.rc_shard.proofs.Numbered.{chain-beside, chain-here, either, here-or-beside, mapped, some-chain, there-or-not}
+use Rattle.rc_shard.proofs.Numbered.{chain-beside, chain-here, either, here-or-beside, some-chain, there-or-not}
 
 -- ---- nothing is done, or one thing after another
 
@@ -39,8 +40,14 @@ still-along old mid new f g id k there kind =
     let b = g id a.0 a.1 (a.2.kind ∙ kind) in
     (b.0, b.1, content-then k a.0 b.0 a.2 b.2)
 
+pub keeps-all : (m : Memory) → KeepsSnapshots m m
+keeps-all m = record { each = λ id pin h. h; number = le_refl (cache_snapshots m) }
+
+pub all-then : (old mid new : Memory) → KeepsSnapshots old mid → KeepsSnapshots mid new → KeepsSnapshots old new
+all-then old mid new f g = record { each = λ id pin h. g.each id pin (f.each id pin h); number = (let a = f.number in let b = g.number in omega (arith, a, b)) }
+
 pub leaves-itself : (m : Memory) → LeavesCache m m
-leaves-itself m = record { says = λ schema below h. h; entries = λ es h. h; one = λ h. h; used = λ h. h; untaken = λ h. h; lost = le_refl (losses m); still = λ none id k there kind. (k, there, same-content k) }
+leaves-itself m = record { says = λ schema below h. h; entries = λ es h. h; one = λ h. h; used = λ h. h; snapshots = keeps-all m; lost = le_refl (losses m); still = λ none id k there kind. (k, there, same-content k) }
 
 pub leaves-then : (old mid new : Memory) → LeavesCache old mid → LeavesCache mid new → LeavesCache old new
 leaves-then old mid new f g = record {
@@ -48,7 +55,7 @@ leaves-then old mid new f g = record {
   entries = λ es h. g.entries es (f.entries es h);
   one = λ h. g.one (f.one h);
   used = λ h. g.used (f.used h);
-  untaken = λ h. g.untaken (f.untaken h);
+  snapshots = all-then old mid new f.snapshots g.snapshots;
   lost = (let a = f.lost in let b = g.lost in omega (arith, a, b));
   still = λ none. (let u = lost-neither (losses old) (losses mid) (losses new) f.lost g.lost none in still-along old mid new (f.still u.0) (g.still u.1));
 }
@@ -71,6 +78,7 @@ pub record SameLaws : Type 0 where
   pub entries : (entries : List (List ℕ × ℕ)) (old new : Memory) → LeavesCached old new → AreEntries entries old → AreEntries entries new
   pub one : (old new : Memory) → IsUntouched old new → HaveOneVersion old → HaveOneVersion new
   pub used : (old new : Memory) → IsUntouched old new → AreInUse old → AreInUse new
+  pub snapshots : (old new : Memory) → IsUntouched old new → KeepsSnapshots old new
 
 module _ (l : SameLaws) (old new : Memory) (u : IsUntouched old new) where
   pub leaves-untouched : LeavesCache old new
@@ -79,7 +87,7 @@ module _ (l : SameLaws) (old new : Memory) (u : IsUntouched old new) where
     entries = λ es h. l.entries es old new (l.cached old new u) h;
     one = λ h. l.one old new u h;
     used = λ h. l.used old new u h;
-    untaken = λ h id k there kind. h id k (sym (ap (λ cs. slice_index_or cs id None) u.chains) ∙ there) kind;
+    snapshots = l.snapshots old new u;
     lost = (let e = ap (λ (c : Counts). c.evicted + c.skipped) u.counts in omega (arith, e));
     still = λ none id k there kind. (k, ap (λ cs. slice_index_or cs id None) u.chains ∙ there, same-content k);
   }
@@ -90,6 +98,7 @@ pub record BesideLaws : Type 0 where
   pub cached : (old new : Memory) → AreCachesSame old new → LeavesCached old new
   pub entries : (entries : List (List ℕ × ℕ)) (old new : Memory) → LeavesCached old new → AreEntries entries old → AreEntries entries new
   pub one : (old new : Memory) → AreCachesSame old new → HaveOneVersion old → HaveOneVersion new
+  pub snapshots : (old new : Memory) → AreCachesSame old new → KeepsSnapshots old new
 
 module _ (l : BesideLaws) (old new : Memory) (same : AreCachesSame old new) (used : AreInUse old → AreInUse new) (fell : NoCountFell old new) where
   pub leaves-beside : LeavesCache old new
@@ -98,7 +107,7 @@ module _ (l : BesideLaws) (old new : Memory) (same : AreCachesSame old new) (use
     entries = λ es h. l.entries es old new (l.cached old new same) h;
     one = λ h. l.one old new same h;
     used = used;
-    untaken = λ h id k there kind. h id k (same.none id k kind there) kind;
+    snapshots = l.snapshots old new same;
     lost = no-loss-fell old new fell;
     still = λ none id k there kind. (k, same.stays id k kind there, same-content k);
   }
@@ -110,26 +119,16 @@ pub record RoomLaws : Type 0 where
   pub entries : (entries : List (List ℕ × ℕ)) (old new : Memory) → LeavesCached old new → AreEntries entries old → AreEntries entries new
   pub one : (went : List Member) (gone : List ℕ) (old new : Memory) → AreEvicted went gone old new → HaveOneVersion old → HaveOneVersion new
   pub used : (went : List Member) (gone : List ℕ) (old new : Memory) → AreEvicted went gone old new → AreInUse old → AreInUse new
-  pub kind : (id : ℕ) (went : List Member) (k : KeptChain) → (evicted_of id went k).chain.kind ≡ k.chain.kind
-  pub pins : (id : ℕ) (went : List Member) (k : KeptChain) → (evicted_of id went k).chain.pins ≡ k.chain.pins
+  pub snapshots : (went : List Member) (gone : List ℕ) (old new : Memory) → AreEvicted went gone old new → KeepsSnapshots old new
 
 module _ (l : RoomLaws) (went : List Member) (gone : List ℕ) (old new : Memory) (told : (id : ℕ) → IsNumberIn old.dropped id → chain_at old id ≡ None) (evicted : AreEvicted went gone old new) (fell : NoCountFell old new) where
-  -- a chain that is there was there, with what went of it
-  was-there : (id : ℕ) (k : KeptChain) → chain_at new id ≡ Some k → (was : KeptChain) × (chain_at old id ≡ Some was) × (evicted_of id went was ≡ k)
-  was-there id k there =
-      let out : Contains gone id → ⊥ = λ on. no_some k (sym (evicted.absent id on) ∙ there) in
-      mapped (evicted_of id went) (chain_at old id) k (sym (evicted.chains id out) ∙ there)
-
   pub leaves-evicted : LeavesCache old new
   leaves-evicted = record {
     says = λ schema below h. l.says schema below went gone old new evicted h;
     entries = λ es h. l.entries es old new (l.cached went gone old new told evicted) h;
     one = λ h. l.one went gone old new evicted h;
     used = λ h. l.used went gone old new evicted h;
-    untaken = λ h id k there kind pin.
-        let was = was-there id k there in
-        ap (λ (q : KeptChain). pin_at q.chain.pins pin) (sym was.2) ∙ ap (λ ps. pin_at ps pin) (l.pins id went was.0)
-        ∙ h id was.0 was.1 (sym (l.kind id went was.0) ∙ ap (λ (q : KeptChain). q.chain.kind) was.2 ∙ kind) pin;
+    snapshots = l.snapshots went gone old new evicted;
     lost = no-loss-fell old new fell;
     still = λ none id k there kind. (
         let e = none.0 in
@@ -145,6 +144,7 @@ pub record ReadLaws : Type 0 where
   pub entries : (entries : List (List ℕ × ℕ)) (old new : Memory) → LeavesCached old new → AreEntries entries old → AreEntries entries new
   pub one : (old new : Memory) → AreAsBefore old new → HaveOneVersion old → HaveOneVersion new
   pub used : (old new : Memory) → AreAsBefore old new → AreInUse old → AreInUse new
+  pub snapshots : (old new : Memory) → AreAsBefore old new → KeepsSnapshots old new
 
 module _ (old new : Memory) (b : AreAsBefore old new) where
   was-read : (id : ℕ) (k : KeptChain) → chain_at new id ≡ Some k → (was : KeptChain) × (chain_at old id ≡ Some was) × IsAsBefore was k
@@ -164,7 +164,7 @@ module _ (old new : Memory) (b : AreAsBefore old new) where
     entries = λ es h. l.entries es old new cached-read h;
     one = λ h. l.one old new b h;
     used = λ h. l.used old new b h;
-    untaken = λ h id k there kind pin. (let was = was-read id k there in was.2.pins pin ∙ h id was.0 was.1 (sym was.2.kind ∙ kind) pin);
+    snapshots = l.snapshots old new b;
     lost = (let e = ap (λ (c : Counts). c.evicted + c.skipped) b.counts in omega (arith, e));
     still = λ none id k there kind. (let now = b.there id k there in (now.0, now.1, record { kind = now.2.kind; attached = now.2.attached; versions = now.2.versions }));
   }

@@ -1,5 +1,6 @@
 -- What a shard counts and tells.
 use Rattle.std.proofs.Common.{◌≡◌, ◌+◌, ◌-◌, ◌≤◌, ℕ, List, length, Result, Ok, Err, IfOk, IfSome, refl, ap, subst, ◌∙◌, arith}
+use Rattle.std.specs.Global.{Vec}
 use Rattle.std.proofs.lemmas.List.Sums.{count_by-le-length}
 use Rattle.lsa_pool.specs.declared.Usage.{Usage}
 use Rattle.lsa_pool.specs.Room.{free_count, is_state_free}
@@ -8,6 +9,7 @@ use Rattle.rc_lines.specs.declared.commands.Reply.{Reply}
 use Rattle.rc_lookup.specs.NoMore.{counts-same}
 use Rattle.rc_folder.specs.Counting.{AreCounted, counted_answer, figures_in}
 use Rattle.rc_folder.specs.declared.counts.Answered.{Answered}
+use Rattle.rc_shard.specs.declared.readers.PartitionReader.{PartitionReader}
 use Rattle.rc_shard.specs.declared.shard.Shard.{Shard}
 use Rattle.rc_shard.specs.Counting.{figures_of}
 use Rattle.rc_shard.specs.calls.Keeping.{CountsStay}
@@ -19,6 +21,10 @@ if-ok-all (Err e) Q all = tt
 -- nothing is counted where nothing is done
 pub counts-itself : (k : Shard) → CountsStay k k
 counts-itself k = record { answered = refl; segments = refl; asked = refl; none_fell = counts-same k.unstored.chains k.unstored.chains refl refl }
+
+-- what is counted is counted whether there is room for one more reader or not
+pub counts-reserved : (k : Shard) (readers : Vec (ℕ × PartitionReader)) (l : Shard) → CountsStay (record k { readers = readers }) l → CountsStay k l
+counts-reserved k readers l c = record { answered = c.answered; segments = c.segments; asked = c.asked; none_fell = c.none_fell }
 
 -- no more segments are free than there are
 pub make-budget : (us : List Usage) (segments budget : ℕ) → budget ≡ segments → length us ≡ budget → (segments - free_count us) + free_count us ≡ budget

@@ -16,7 +16,6 @@ use Rattle.rc_mutation.specs.declared.mutations.Write.{Write}
 use Rattle.rc_registry.specs.ChainKind.{ChainKind}
 use Rattle.rc_registry.specs.ChainKind.TheVariants.{Cache, Memtable}
 use Rattle.rc_registry.specs.Registry.{IsNumberIn}
-use Rattle.rc_registry.specs.Steps.{pin_at}
 use Rattle.rc_memory.specs.declared.counts.Counts.{Counts}
 use Rattle.rc_memory.specs.Kept.{IsSoundChain}
 use Rattle.rc_memory.specs.Memory.{KeptChain, Memory, chain_at, on_shown, shown_detached}
@@ -35,10 +34,11 @@ use Rattle.rc_lookup.specs.Footprint.{AreInUse, HaveOneVersion, NoUpdateStands, 
 use Rattle.rc_lookup.specs.Fillers.{losses}
 use Rattle.rc_lookup.specs.Staying.{IsEntryStill}
 use Rattle.rc_lookup.specs.laws.Staying.{entry-itself, entry-then, same-content}
+use Rattle.rc_shard.specs.Releasing.{KeepsSnapshots}
 use Rattle.rc_shard.specs.calls.Caching.{AreOthers, AreStillThere, Forgets, HasCache, KeepsCache}
 use Rattle.rc_shard.specs.calls.Storing.{KeepsWritten}
-use Rattle.rc_shard.proofs.Caching.{lost-neither}
-use Rattle.rc_shard.proofs.Numbered.{chain-beside, chain-here, either, here-or-beside, mapped, there-or-not}
+use Rattle.rc_shard.proofs.Caching.{all-then, keeps-all, lost-neither}
+use Rattle.rc_shard.proofs.Numbered.{chain-beside, either, there-or-not}
 
 -- ---- keys
 
@@ -69,7 +69,7 @@ entry-still key es m n still id e on = (e, λ k there. still id k there (ap (λ 
 -- ---- none, and one after another
 
 pub forgets-none : (es : List (List ℕ × ℕ)) (m : Memory) → Forgets [] es es m m
-forgets-none es m = record { says = λ schema below h. h; has = λ h. h; found = λ h key id e. (e, tt); bytes = le_refl (memtable_bytes m); lost = le_refl (losses m); stays = λ h none key others. entry-itself key es m }
+forgets-none es m = record { says = λ schema below h. h; has = λ h. h; found = λ h key id e. (e, tt); bytes = le_refl (memtable_bytes m); snapshots = keeps-all m; lost = le_refl (losses m); stays = λ h none key others. entry-itself key es m }
 
 pub forgets-then : (p : Partition) (ps : List Partition) (a b c : List (List ℕ × ℕ)) (m n l : Memory) → Forgets (p ∷ []) a b m n → Forgets ps b c n l → Forgets (p ∷ ps) a c m l
 forgets-then p ps a b c m n l f g = record {
@@ -77,6 +77,7 @@ forgets-then p ps a b c m n l f g = record {
   has = λ h. g.has (f.has h);
   found = λ h key id e. (let later = g.found (f.has h) key id e in let first = f.found h key id later.0 in (first.0, (first.1.0, later.1)));
   bytes = (let x = f.bytes in let y = g.bytes in omega (arith, x, y));
+  snapshots = all-then m n l f.snapshots g.snapshots;
   lost = (let x = f.lost in let y = g.lost in omega (arith, x, y));
   stays = λ h none key others. (
       let u = lost-neither (losses m) (losses n) (losses l) f.lost g.lost none in
@@ -86,12 +87,13 @@ forgets-then p ps a b c m n l f g = record {
 -- behind what keeps the cache
 pub forgets-behind : (ps : List Partition) (a b : List (List ℕ × ℕ)) (m n l : Memory) → KeepsCache m n → Forgets ps a b n l → Forgets ps a b m l
 forgets-behind ps a b m n l k f =
-    let step : HasCache a m → HasCache a n = λ h. record { are = k.left.entries a h.are; one = k.left.one h.one; used = k.left.used h.used; untaken = k.left.untaken h.untaken } in
+    let step : HasCache a m → HasCache a n = λ h. record { are = k.left.entries a h.are; one = k.left.one h.one; used = k.left.used h.used } in
     record {
       says = λ schema below h. f.says schema below (k.left.says schema below h);
       has = λ h. f.has (step h);
       found = λ h. f.found (step h);
       bytes = (let x = k.bytes in let y = f.bytes in omega (arith, x, y));
+      snapshots = all-then m n l k.left.snapshots f.snapshots;
       lost = (let x = k.left.lost in let y = f.lost in omega (arith, x, y));
       stays = λ h none key others. (
           let u = lost-neither (losses m) (losses n) (losses l) k.left.lost f.lost none in
@@ -125,6 +127,7 @@ forgets-absent p es es' m n none same =
         ),
       );
       bytes = le_refl (memtable_bytes m);
+      snapshots = keeps-all m;
       lost = le_refl (losses m);
       stays = λ h none key others. entry-itself key es m;
     } in
@@ -142,6 +145,7 @@ pub record DetachLaws : Type 0 where
   pub settled : (m : Memory) → ((id : ℕ) (k : KeptChain) → chain_at m id ≡ Some k → IsSoundChain k.chain) → HaveOneVersion m → NoUpdateStands m
   pub used : (id : ℕ) (old new : Memory) → ((k : KeptChain) → chain_at old id ≡ Some k → k.chain.updating ≡ false) → IsDetached id old new → AreInUse old → AreInUse new
   pub bytes : (id : ℕ) (old new : Memory) → IsDetached id old new → memtable_bytes new ≡ memtable_bytes old
+  pub snapshots : (id : ℕ) (old new : Memory) → IsDetached id old new → KeepsSnapshots old new
   pub gone : (entries : List (List ℕ × ℕ)) (key q : List ℕ) → DoKeysAscend entries → entry_number (remove_entry (is_at (bytes_cmp key)) entries) q ≡ cond (eq_by_cmp bytes_cmp key q) None (entry_number entries q)
 
 module _ (l : DetachLaws) (p : Partition) (es : List (List ℕ × ℕ)) (id : ℕ) (u : Unstored 131072) (n : Memory) (sound : (i : ℕ) → IfSome (chain_at u.chains i) (λ k. IsSoundChain k.chain)) (told : (i : ℕ) → IsNumberIn u.chains.dropped i → chain_at u.chains i ≡ None)
@@ -152,15 +156,6 @@ module _ (l : DetachLaws) (p : Partition) (es : List (List ℕ × ℕ)) (id : �
     | inl cached ↦ ap (λ (q : KeptChain). q.chain.kind) (same_some k cached.kept (sym there ∙ cached.there)) ∙ cached.kind
     | inr gone ↦ absurd (no_some k (sym (told id gone) ∙ there))
   ]
-
-  was-detached : (i : ℕ) (k : KeptChain) → chain_at n i ≡ Some k → (was : KeptChain) × (chain_at u.chains i ≡ Some was) × (k.chain.kind ≡ was.chain.kind) × (k.chain.pins ≡ was.chain.pins)
-  was-detached i k there = there-or-not _ (chain_at u.chains id)
-      (λ none. (k, ap (λ (x : Memory). chain_at x i) (sym (d.gone none)) ∙ there, refl, refl))
-      (λ at e. let is = (d.there at e).2.chains in
-      here-or-beside (λ j. chain_at n j ≡ Some k → (was : KeptChain) × (chain_at u.chains j ≡ Some was) × (k.chain.kind ≡ was.chain.kind) × (k.chain.pins ≡ was.chain.pins)) id i
-      (λ here. let q = mapped (on_shown shown_detached) (chain_at u.chains id) k (sym (chain-here u.chains n id (option_map (on_shown shown_detached) (chain_at u.chains id)) is) ∙ here) in
-      (q.0, q.1, ap (λ (x : KeptChain). x.chain.kind) (sym q.2), ap (λ (x : KeptChain). x.chain.pins) (sym q.2)))
-      (λ ne here. (k, sym (chain-beside u.chains n id (option_map (on_shown shown_detached) (chain_at u.chains id)) is i ne) ∙ here, refl, refl)) there)
 
   -- another chain is as it was
   other-still : (i : ℕ) → (id ≡ i → ⊥) → chain_at n i ≡ chain_at u.chains i
@@ -175,7 +170,6 @@ module _ (l : DetachLaws) (p : Partition) (es : List (List ℕ × ℕ)) (id : �
       are = entries h.are;
       one = l.one id u.chains n d h.one;
       used = l.used id u.chains n (λ k there. still id k there (its-kind h.are k there)) d h.used;
-      untaken = λ i k there kind pin. (let was = was-detached i k there in ap (λ ps. pin_at ps pin) was.3 ∙ h.untaken i was.0 was.1 (sym was.2 ∙ kind) pin);
     });
     found = λ h key i e.
         let f = l.gone es p.key key h.are.ascend in
@@ -184,6 +178,7 @@ module _ (l : DetachLaws) (p : Partition) (es : List (List ℕ × ℕ)) (id : �
         (λ on. absurd (no_some i (sym (ap (λ b. cond b None (entry_number es key)) on) ∙ at)))
         (λ off. (sym (ap (λ b. cond b None (entry_number es key)) off) ∙ at, (differ key p.key off, tt)));
     bytes = (let e = l.bytes id u.chains n d in omega (arith, e));
+    snapshots = l.snapshots id u.chains n d;
     lost = there-or-not _ (chain_at u.chains id) (λ none. let same = ap losses (d.gone none) in omega (arith, same)) (λ at e. let same = ap (λ (c : Counts). c.evicted + c.skipped) (d.there at e).2.counts in omega (arith, same));
     stays = λ h none key others i e on. (
         let at = ap (λ (x : List (List ℕ × ℕ)). entry_number x key) is ∙ l.gone es p.key key h.are.ascend ∙ ap (λ b. cond b None (entry_number es key)) (differ p.key key others.0) ∙ e in

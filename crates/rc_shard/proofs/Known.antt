@@ -1,6 +1,7 @@
 -- What the row cache knows of a partition it knows still.
 use Rattle.std.proofs.Common.{inl, inr, ◌≡◌, ℕ, true, false, List, [], ◌∷◌, Option, Some, None, Result, Ok, Err, refl, sym, ap, ◌∙◌, subst}
 use Rattle.std.specs.Prelude.{◌||◌, IfErr, IfOk, IsSomeAnd, IsTrue, OnOk, cond, is_some, map}
+use Rattle.std.specs.Global.{Vec}
 use Rattle.std.specs.List.{list_any}
 use Rattle.std.specs.Ordering.{eq_by_cmp}
 use Rattle.std.specs.FinMap as finite
@@ -18,7 +19,8 @@ use Rattle.rc_registry.specs.Continuity.{static_states}
 use Rattle.rc_registry.specs.Registry.{IsNumberIn}
 use Rattle.rc_registry.specs.Version.{Version}
 use Rattle.rc_memory.specs.Memory.{KeptChain, Memory, chain_at}
-use Rattle.rc_memory.specs.laws.Places.{no_some}
+use Rattle.rc_memory.specs.laws.Places.{no_some, same_some}
+use Rattle.rc_chain.specs.declared.chains.Snap.{Snap}
 use Rattle.rc_stream.specs.declared.streams.StreamErr.{StreamErr}
 use Rattle.rc_stream.specs.declared.streams.StreamErr.TheVariants as stream_err
 use Rattle.rc_stream.specs.Snapshot.{NoneLost}
@@ -31,12 +33,15 @@ use Rattle.rc_lookup.specs.Found.{entry_number}
 use Rattle.rc_lookup.specs.Known.{IsPartitionKnown}
 use Rattle.rc_lookup.specs.Memtables.{HaveWrites}
 use Rattle.rc_lookup.specs.Staying.{IsEntryStill}
+use Rattle.rc_lookup.specs.laws.Staying.{entry-then, same-content}
 use Rattle.rc_lookup.specs.Unstored.{Unstored}
 use Rattle.rc_lookup.specs.Writes.{HasWrites, chain_of, names}
 use Rattle.rc_lines.specs.declared.commands.Command.TheVariants.{Flush}
 use Rattle.rc_lines.specs.declared.commands.Reply.{Reply}
+use Rattle.rc_shard.specs.declared.readers.PartitionReader.{PartitionReader}
 use Rattle.rc_shard.specs.declared.shard.Shard.{Shard}
-use Rattle.rc_shard.specs.Knowing.{IsCachedWhere, IsCachedWhole, IsChainWhere, IsKnownStill, IsUnwritten, StaysKnown}
+use Rattle.rc_shard.specs.Knowing.{IsCachedWhere, IsCachedWhole, IsChainWhere, IsKnownStill, IsPartitionListed, IsUnwritten, StaysKnown}
+use Rattle.rc_shard.specs.Releasing.{IsGivenBack, IsListed}
 use Rattle.rc_shard.specs.calls.Caching.{AreOthers, Forgets, HasCache, LeavesCache}
 use Rattle.rc_shard.specs.calls.Keeping.{TellsOf}
 use Rattle.rc_shard.specs.calls.Looking.{AreKnownStill, IsCacheLeft, UnlessMemory}
@@ -117,6 +122,27 @@ known-whole k k' key whole = record {
 pub left-known : (k k' : Shard) → AreEntries k.cache.entries k.unstored.chains → AreGone k.unstored.chains → IsCacheLeft k k' → AreKnownStill k k'
 left-known k k' are gone h none key =
     known-still k k' key are gone (subst (λ es. IsEntryStill key k.cache.entries k.unstored.chains es k'.unstored.chains) (sym (ap (λ c. c.entries) h.cache)) (entry-still key k.cache.entries k.unstored.chains k'.unstored.chains (h.left.still none)))
+
+-- ---- a snapshot of the row cache is taken back
+
+-- a partition of which something could be evicted has its chain still
+pub listed-still : (snap : Option Snap) (key : List ℕ) (es : List (List ℕ × ℕ)) (old mid : Memory) → IsGivenBack snap old mid → IsSomeAnd (entry_number es key) (IsListed old) → IsEntryStill key es old es mid
+listed-still None key es old mid same listed = subst (IsEntryStill key es old es) (sym same) (λ id e on. (e, λ k there. (k, there, same-content k)))
+listed-still (Some s) key es old mid r listed = λ id e on. (e, λ k there. r.still id k there (ap (λ (q : KeptChain). q.chain.kind) (same_some k on.kept (sym there ∙ on.there)) ∙ on.kind) (subst (λ o. IsSomeAnd o (IsListed old)) e listed))
+
+-- what is known of a partition of which something could be evicted is known still, where a snapshot was taken back and then the cache was left
+pub back-known : (snap : Option Snap) (k k' : Shard) (mid : Memory) (key : List ℕ) → AreEntries k.cache.entries k.unstored.chains → AreGone k.unstored.chains → k'.cache ≡ k.cache → IsGivenBack snap k.unstored.chains mid → LeavesCache mid k'.unstored.chains → NoneLost (losses mid) (losses k'.unstored.chains) → IsPartitionListed k key → IsKnownStill key k k'
+back-known snap k k' mid key are gone cache back left none listed =
+    let es = k.cache.entries in
+    let first : IsEntryStill key es k.unstored.chains es mid = listed-still snap key es k.unstored.chains mid back listed in
+    let since : IsEntryStill key es mid es k'.unstored.chains = entry-still key es mid k'.unstored.chains (left.still none) in
+    known-still k k' key are gone (subst (λ xs. IsEntryStill key es k.unstored.chains xs k'.unstored.chains) (sym (ap (λ c. c.entries) cache)) (entry-then key es es es k.unstored.chains mid k'.unstored.chains first since))
+
+-- ---- room for one more reader
+
+-- what is known of a partition is known whether there is room for one more reader or not
+pub known-reserved : (k : Shard) (readers : Vec (ℕ × PartitionReader)) (l : Shard) → AreKnownStill (record k { readers = readers }) l → AreKnownStill k l
+known-reserved k readers l h none key = known-then k (record k { readers = readers }) l key (known-where k (record k { readers = readers }) key (λ P on. on)) (h none key)
 
 -- ---- a partition that was read
 

@@ -1,17 +1,26 @@
 mod Numbered
 mod Caching
 mod Known
-mod Live
 mod Unwritten
 mod Forgotten
 mod Places
 mod Served
+mod Joined
+mod Resaid
+mod Chained
+mod Pinning
+mod Released
+mod Snapshots
 mod Standing
+mod Tabled
 mod Taking
 mod Flushing
 mod Opening
+mod Opened
+mod Paged
 mod Pinned
 mod Closing
+mod GoneOn
 mod Compacted
 mod Looking
 mod Filled
@@ -19,3 +28,4 @@ mod Evicted
 pub mod Counted
 mod Losing
 mod Rereading
+mod Given

@@ -1,57 +1,129 @@
 -- What asking the row cache, and filling it, leaves of what a shard stands for.
-use Rattle.std.proofs.Common.{◌≡◌, ℕ, List, Option, Some, None, IsSome, Result, Ok, Err, IfOk, refl, sym, ap, ◌∙◌, subst, arith}
-use Rattle.std.specs.Prelude.{[], ◌∷◌, IfSome, IsSomeAnd, IsTrue, OnOk}
+use Rattle.std.proofs.Common.{inl, inr, ◌≡◌, ◌≤◌, ◌+◌, ℕ, List, Option, Some, None, IsSome, Result, Ok, Err, IfOk, refl, sym, ap, ◌∙◌, subst, le_refl, length, arith}
+use Rattle.std.specs.Prelude.{[], ◌∷◌, IfSome, IsSomeAnd, MatchOption, OnErr, OnOk}
+use Rattle.std.specs.List.{AllByRecursion, AllZip}
 use Rattle.std.specs.Option.{option_map}
 use Rattle.rc_outside.specs.Files.{Files}
-use Rattle.rc_schema.specs.SchemaValue.{SchemaValue, is_schema}
+use Rattle.rc_schema.specs.SchemaValue.{SchemaValue}
 use Rattle.rc_mutation.specs.declared.mutations.Write.{Write}
-use Rattle.rc_mutation.specs.Source.{SameSource}
+use Rattle.rc_mutation.specs.declared.mutations.Mutation.{Mutation}
 use Rattle.rc_query.specs.declared.lines.OutLine.{OutLine}
 use Rattle.rc_registry.specs.ChainKind.{ChainKind}
-use Rattle.rc_registry.specs.ChainKind.TheVariants.{Cache, Memtable}
+use Rattle.rc_registry.specs.ChainKind.TheVariants.{Memtable}
 use Rattle.rc_registry.specs.Steps.{pin_at}
 use Rattle.rc_registry.specs.Version.{Version}
 use Rattle.rc_memory.specs.Memory.{HasPin, KeptChain, Memory, chain_at, snapshot_number, with_snapshot}
-use Rattle.rc_memory.specs.laws.Places.{same_some}
 use Rattle.rc_chain.specs.declared.chains.Snap.{Snap}
 use Rattle.rc_lookup.specs.LetGo.{NoCountFell}
-use Rattle.rc_lookup.specs.Writes.{AreSmall, HasWrites, chain_of}
+use Rattle.rc_lookup.specs.Writes.{HasWrites, chain_of}
 use Rattle.rc_lookup.specs.NoMore.{counts-same, counts-then}
 use Rattle.rc_lookup.specs.Fillers.{losses}
-use Rattle.rc_snapshots.specs.Seeing.{StillSeeBoth}
+use Rattle.rc_cached.specs.Stands.{HasCacheSnapshot}
+use Rattle.rc_snapshots.specs.Seeing.{AllStillSee}
+use Rattle.rc_snapshots.specs.laws.Seeing.{all-see, seen-then}
 use Rattle.rc_stream.specs.Snapshot.{NoneLost}
-use Rattle.rc_stream.specs.Stream.{Stream}
 use Rattle.rc_lookup.specs.Unstored.{Unstored}
 use Rattle.rc_lookup.specs.Memtables.{HaveWrites, in_chains}
 use Rattle.rc_lookup.specs.Readers.{IsTakenIf}
 use Rattle.rc_lookup.specs.Entries.{AreEntries}
 use Rattle.rc_lookup.specs.Found.{IsForgotten}
 use Rattle.rc_lookup.specs.Saying.{Below, CacheSays}
-use Rattle.rc_lookup.specs.Rest.{LeavesRest}
-use Rattle.rc_lookup.specs.laws.Rest.{rest-none, rest-then}
-use Rattle.rc_lookup.specs.Looked.{IsCacheOver, IsPartitionFound}
-use Rattle.rc_opened.specs.declared.opened.Opened.{Opened}
-use Rattle.rc_opened.specs.Opened.{snaps_of}
+use Rattle.rc_lookup.specs.Footprint.{AreInUse, HaveOneVersion, cache_snapshots, memtable_bytes}
+use Rattle.rc_lookup.specs.Held.{IsHeldOf}
+use Rattle.rc_lookup.specs.Rest.{LeavesBut, LeavesRest}
+use Rattle.rc_lookup.specs.Looked.{IsCacheOver}
+use Rattle.rc_paging.specs.declared.forms.PartReader.{PartReader}
 use Rattle.rc_folder.specs.Tabled.{Tabled}
-use Rattle.rc_machine.specs.State.{State}
+use Rattle.rc_machine.specs.State.{Reader, State}
+use Rattle.rc_shard.specs.declared.readers.PartitionReader.{PartitionReader}
 use Rattle.rc_shard.specs.declared.shard.Shard.{Shard}
-use Rattle.rc_shard.specs.Cached.{AreUntaken, HaveCached}
+use Rattle.rc_shard.specs.Cached.{HaveCached}
 use Rattle.rc_shard.specs.Knowing.{IsChainWhere}
-use Rattle.rc_shard.specs.Stands.{AreFor}
+use Rattle.rc_shard.specs.Readers.{IsCachedThere, IsOther, IsServed, cached_of, count_of}
+use Rattle.rc_shard.specs.Stands.{AreFor, Stands}
+use Rattle.rc_shard.specs.Using.{LeavesBeside}
 use Rattle.rc_shard.specs.calls.Keeping.{CountsStay}
-use Rattle.rc_shard.specs.calls.Looking.{IsCacheUsed, IsTabled}
-use Rattle.rc_shard.proofs.Numbered.{chain-beside, chain-here, here-or-beside, some-chain}
-use Rattle.rc_shard.proofs.Served.{all-served}
-use Rattle.rc_shard.proofs.Standing.{sound-less}
+use Rattle.rc_shard.specs.calls.Looking.{IsCacheUsed, IsEntrySnapshot, snap_taken}
+use Rattle.rc_shard.specs.calls.Staying.{Staying}
+use Rattle.rc_shard.proofs.Numbered.{chain-beside, chain-here, here-or-beside}
+use Rattle.rc_shard.proofs.Served.{all-served, below-served, same-opened}
+use Rattle.rc_shard.proofs.Standing.{sound-less, stands-cached}
+
+-- ---- what is left
+
+-- what is left of everything else, where so many snapshots of the row cache were taken
+pub record IsRest (more : ℕ) (old new : Memory) : Type 0 where
+  pub memtables : (id : ℕ) (k : KeptChain) → chain_at old id ≡ Some k → k.chain.kind ≡ Memtable → chain_at new id ≡ Some k
+  pub seen : AllStillSee old new
+  pub segments : length new.region.usages ≡ length old.region.usages
+  pub counts : NoCountFell old new
+  pub bytes : memtable_bytes new ≤ memtable_bytes old
+  pub one : HaveOneVersion old → HaveOneVersion new
+  pub used : HaveOneVersion old → AreInUse old → AreInUse new
+  pub pins : (id pin : ℕ) → HasCacheSnapshot old id pin → HasCacheSnapshot new id pin
+  pub snapshots : cache_snapshots new ≤ cache_snapshots old + more
+
+pub rest-plain : (old new : Memory) → LeavesRest old new → IsRest 0 old new
+rest-plain old new r = record { memtables = r.memtables; seen = r.seen; segments = r.segments; counts = r.counts; bytes = r.bytes; one = r.one; used = r.used; pins = r.pins; snapshots = (let a = r.snapshots in omega (arith, a)) }
+
+pub rest-of : (taken : Option Snap) (old new : Memory) → LeavesBeside taken old new → IsRest (count_of taken) old new
+rest-of None old new r = rest-plain old new r
+rest-of (Some s) old new r = record { memtables = r.memtables; seen = r.seen; segments = r.segments; counts = r.counts; bytes = r.bytes; one = r.one; used = r.used; pins = r.pins; snapshots = r.snapshots }
 
 -- ---- one call after another
 
-pub used-itself : (k : Shard) → IsCacheUsed k k
-used-itself k = record { rest = rest-none k.unstored.chains; keys = record { sealed = refl; active = refl }; folder = refl; readers = refl; answered = refl; segments = refl; asked = refl }
+rest-itself : (m : Memory) → LeavesRest m m
+rest-itself m = record {
+  memtables = λ id k there kind. there;
+  seen = all-see m m (λ s on. record { pin = on; versions = refl; kind = refl });
+  none_more = λ s on. on;
+  segments = λ i. length m.region.usages;
+  counts = counts-same m m refl refl;
+  bytes = le_refl (memtable_bytes m);
+  one = λ h. h;
+  used = λ one h. h;
+  pins = λ id pin h. h;
+  snapshots = le_refl (cache_snapshots m);
+}
 
-pub used-then : (k l k' : Shard) → IsCacheUsed k l → IsCacheUsed l k' → IsCacheUsed k k'
-used-then k l k' f g = record {
-  rest = rest-then k.unstored.chains l.unstored.chains k'.unstored.chains f.rest g.rest;
+rest-then : (old mid new : Memory) → LeavesRest old mid → LeavesRest mid new → LeavesRest old new
+rest-then old mid new f g = record {
+  memtables = λ id k there kind. g.memtables id k (f.memtables id k there kind) kind;
+  seen = seen-then old mid new f.seen g.seen;
+  none_more = λ s on. f.none_more s (g.none_more s on);
+  segments = g.segments ∙ f.segments;
+  counts = counts-then old mid new f.counts g.counts;
+  bytes = (let a = f.bytes in let b = g.bytes in omega (arith, a, b));
+  one = λ h. g.one (f.one h);
+  used = λ one h. g.used (f.one one) (f.used one h);
+  pins = λ id pin h. g.pins id pin (f.pins id pin h);
+  snapshots = (let a = f.snapshots in let b = g.snapshots in omega (arith, a, b));
+}
+
+but-then : (s : Snap) (old mid new : Memory) → LeavesRest old mid → LeavesBut s mid new → LeavesBut s old new
+but-then s old mid new f g = record {
+  memtables = λ id k there kind. g.memtables id k (f.memtables id k there kind) kind;
+  seen = seen-then old mid new f.seen g.seen;
+  none_more = λ t on. elim (g.none_more t on) [ inl was ↦ inl (f.none_more t was) | inr it ↦ inr it ];
+  segments = g.segments ∙ f.segments;
+  counts = counts-then old mid new f.counts g.counts;
+  bytes = (let a = f.bytes in let b = g.bytes in omega (arith, a, b));
+  one = λ h. g.one (f.one h);
+  used = λ one h. g.used (f.one one) (f.used one h);
+  pins = λ id pin h. g.pins id pin (f.pins id pin h);
+  snapshots = (let a = f.snapshots in let b = g.snapshots in omega (arith, a, b));
+}
+
+beside-then : (taken : Option Snap) (old mid new : Memory) → LeavesRest old mid → LeavesBeside taken mid new → LeavesBeside taken old new
+beside-then None old mid new f g = rest-then old mid new f g
+beside-then (Some s) old mid new f g = but-then s old mid new f g
+
+pub used-itself : (k : Shard) → IsCacheUsed None k k
+used-itself k = record { rest = rest-itself k.unstored.chains; keys = record { sealed = refl; active = refl }; folder = refl; readers = refl; answered = refl; segments = refl; asked = refl }
+
+pub used-then : (taken : Option Snap) (k l k' : Shard) → IsCacheUsed None k l → IsCacheUsed taken l k' → IsCacheUsed taken k k'
+used-then taken k l k' f g = record {
+  rest = beside-then taken k.unstored.chains l.unstored.chains k'.unstored.chains f.rest g.rest;
   keys = record { sealed = g.keys.sealed ∙ f.keys.sealed; active = g.keys.active ∙ f.keys.active };
   folder = g.folder ∙ f.folder;
   readers = g.readers ∙ f.readers;
@@ -61,15 +133,15 @@ used-then k l k' f g = record {
 }
 
 -- the counts stay where the cache was asked, and where calls behind that let them
-pub counts-used : (k l : Shard) → IsCacheUsed k l → CountsStay k l
-counts-used k l u = record { answered = u.answered; segments = u.segments; asked = u.asked; none_fell = u.rest.counts }
+pub counts-used : (taken : Option Snap) (k l : Shard) → IsCacheUsed taken k l → CountsStay k l
+counts-used taken k l u = record { answered = u.answered; segments = u.segments; asked = u.asked; none_fell = (rest-of taken k.unstored.chains l.unstored.chains u.rest).counts }
 
-pub counts-behind : (k l k' : Shard) → IsCacheUsed k l → CountsStay l k' → CountsStay k k'
-counts-behind k l k' u c = record {
+pub counts-behind : (taken : Option Snap) (k l k' : Shard) → IsCacheUsed taken k l → CountsStay l k' → CountsStay k k'
+counts-behind taken k l k' u c = record {
   answered = c.answered ∙ u.answered;
   segments = c.segments ∙ u.segments;
   asked = c.asked ∙ u.asked;
-  none_fell = counts-then k.unstored.chains l.unstored.chains k'.unstored.chains u.rest.counts c.none_fell;
+  none_fell = counts-then k.unstored.chains l.unstored.chains k'.unstored.chains (rest-of taken k.unstored.chains l.unstored.chains u.rest).counts c.none_fell;
 }
 
 -- where nothing was lost over several calls nothing was lost at one of them
@@ -95,53 +167,55 @@ abbrev pub Beside : Type 0
 Beside = (schema : SchemaValue) (u : Unstored 131072) (m : Memory) (writes later : List Write) → ((key : List ℕ) (id : ℕ) → chain_of u.sealed key ≡ Some id → chain_at m id ≡ chain_at u.chains id) → ((key : List ℕ) (id : ℕ) → chain_of u.active key ≡ Some id → chain_at m id ≡ chain_at u.chains id) →
     HaveWrites schema u writes later → HaveWrites schema (in_chains m u) writes later
 
-chain-still : (m n : Memory) → LeavesRest m n → (schema : SchemaValue) (keys : List (List ℕ × ℕ)) (writes : List Write) → HasWrites schema keys m writes → (key : List ℕ) (id : ℕ) → chain_of keys key ≡ Some id → chain_at n id ≡ chain_at m id
-chain-still m n r schema keys writes h key id e = let k = h.kept key id e in r.memtables id k.0 k.1 k.2.kind ∙ sym k.1
+chain-still : (more : ℕ) (m n : Memory) → IsRest more m n → (schema : SchemaValue) (keys : List (List ℕ × ℕ)) (writes : List Write) → HasWrites schema keys m writes → (key : List ℕ) (id : ℕ) → chain_of keys key ≡ Some id → chain_at n id ≡ chain_at m id
+chain-still more m n r schema keys writes h key id e = let k = h.kept key id e in r.memtables id k.0 k.1 k.2.kind ∙ sym k.1
 
-writes-still : Beside → (u : Unstored 131072) (n : Memory) → LeavesRest u.chains n → (schema : SchemaValue) (writes later : List Write) → HaveWrites schema u writes later → HaveWrites schema (in_chains n u) writes later
-writes-still beside u n r schema writes later h = beside schema u n writes later (chain-still u.chains n r schema u.sealed writes h.sealed) (chain-still u.chains n r schema u.active later h.active) h
-
--- a number that pins nothing
-none-pinned : (o : Option ℕ) → (IsSome o → ⊥) → o ≡ None
-none-pinned None h = refl
-none-pinned (Some j) h = absurd (h refl)
-
-not-none : (o : Option ℕ) → o ≡ None → IsSome o → ⊥
-not-none None e on = cc
-not-none (Some j) e on = cc
-
--- a chain in which a snapshot was there is none of the cache, or one of which one is taken
-of-no-kind : (m n : Memory) → LeavesRest m n → AreUntaken m → (id : ℕ) (k : KeptChain) → chain_at n id ≡ Some k → k.chain.kind ≡ Cache → (pin : ℕ) → IsSome (pin_at k.chain.pins pin) → ⊥
-of-no-kind m n r h id k there kind pin on =
-    let s : Snap = record { chain = id; pin = pin; phase = 0 } in
-    let had : HasPin m id pin = r.none_more s (subst (λ (o : Option KeptChain). IsSomeAnd o (λ q. IsSome (pin_at q.chain.pins pin))) (sym there) on) in
-    let was = some-chain (λ q. IsSome (pin_at q.chain.pins pin)) (chain_at m id) had in
-    elim was.0.chain.kind as (λ t. was.0.chain.kind ≡ t → ⊥) [
-      | Memtable ↦ λ e. (let clash : Memtable ≡ Cache = sym e ∙ ap (λ (q : KeptChain). q.chain.kind) (same_some was.0 k (sym (r.memtables id was.0 was.1 e) ∙ there)) ∙ kind in absurd (cc))
-      | Cache ↦ λ e. not-none (pin_at was.0.chain.pins pin) (h id was.0 was.1 e pin) was.2
-    ] refl
-
-pub untaken-still : (m n : Memory) → LeavesRest m n → AreUntaken m → AreUntaken n
-untaken-still m n r h id k there kind pin = none-pinned (pin_at k.chain.pins pin) (of-no-kind m n r h id k there kind pin)
+writes-still : Beside → (more : ℕ) (u : Unstored 131072) (n : Memory) → IsRest more u.chains n → (schema : SchemaValue) (writes later : List Write) → HaveWrites schema u writes later → HaveWrites schema (in_chains n u) writes later
+writes-still beside more u n r schema writes later h = beside schema u n writes later (chain-still more u.chains n r schema u.sealed writes h.sealed) (chain-still more u.chains n r schema u.active later h.active) h
 
 -- ---- what the cache says
 
 -- what lies below the cache fits the schema
-pub over-of : (schema : SchemaValue) (entries : List (List ℕ × ℕ)) (m : Memory) (st : State) → IsTrue (is_schema schema) → AreSmall 131072 schema → (h : HaveCached schema entries m st) → IsCacheOver 131072 schema (λ id phase. h.below id) m
-over-of schema entries m st limits small h = record { limits = limits; small = small; fits = λ id phase. h.fit id; says = h.says }
+pub over-of : (schema : SchemaValue) (entries : List (List ℕ × ℕ)) (m : Memory) (st : State) (h : HaveCached schema entries m st) → IsCacheOver 131072 schema (λ id phase. h.below id) m
+over-of schema entries m st h = record { limits = h.limits; small = h.small; fits = λ id phase. h.fit id; says = h.says }
 
--- a partition that was found is what the tables say
-pub tabled-of : (schema : SchemaValue) (key : List ℕ) (entries : List (List ℕ × ℕ)) (m : Memory) (st : State) (h : HaveCached schema entries m st) (t : Stream) → IsPartitionFound key entries (λ id phase. h.below id) m t → IsTabled st key t
-tabled-of schema key entries m st h t f =
-    let j = h.of_tables key f.chain f.entry in
-    let same : SameSource (j.join ∷ []) (h.below f.chain) = subst (SameSource (j.join ∷ [])) (sym j.is) (record { head = refl; statics = refl; clustered = λ x. refl }) in
-    record { tabled = j.join; said = j.said; mutation = j.mutation; stream = f.says j.join j.mutation same; of_tables = j.of_tables; joined = j.joined }
+-- a snapshot that was not there before is no reader's
+some-is : (o : Option ℕ) (j : ℕ) → o ≡ Some j → IsSome o
+some-is None j e = absurd (cc)
+some-is (Some i) j e = refl
 
--- what holds of a stream that may be found
-pub if-found : {E : Type 0} (P Q : Stream → Type 0) (r : Result (Option Stream) E) → ((t : Stream) → P t → Q t) → IfOk r (λ o. IfSome o P) → IfOk r (λ o. IfSome o Q)
-if-found P Q (Ok None) f h = tt
-if-found P Q (Ok (Some t)) f h = f t h
-if-found P Q (Err e) f h = tt
+-- a snapshot of the row cache is there
+has-pin : (m : Memory) (s : Snap) → HasCacheSnapshot m s.chain s.pin → HasPin m s.chain s.pin
+has-pin m s h = subst (λ (o : Option KeptChain). IsSomeAnd o (λ q. IsSome (pin_at q.chain.pins s.pin))) (sym h.there) (some-is (pin_at h.chain.chain.pins s.pin) h.number h.pinned)
+
+not-this : (m : Memory) (s : Snap) → (HasPin m s.chain s.pin → ⊥) → (o : Option Snap) → IsCachedThere m o → IsOther o s
+not-this m s fresh None h = tt
+not-this m s fresh (Some t) h = λ c p. fresh (subst (λ i. HasPin m i s.pin) (sym c) (subst (λ i. HasPin m t.chain i) (sym p) (has-pin m t h)))
+
+none-taken : (lines : PartReader → Memory → List Mutation → List OutLine → Type 0) (below : ℕ → List Mutation) (st : State) (m : Memory) (s : Snap) (fresh : HasPin m s.chain s.pin → ⊥) (os : List (ℕ × PartitionReader)) (rs : List (ℕ × Reader)) → AllZip (IsServed lines below st m) os rs → AllByRecursion (λ o. IsOther (cached_of o.1) s) os
+none-taken lines below st m s fresh [] rs h = tt
+none-taken lines below st m s fresh (o ∷ os) [] h = absurd h
+none-taken lines below st m s fresh (o ∷ os) (r ∷ rs) h = (not-this m s fresh (cached_of o.1) h.0.held.cached, none-taken lines below st m s fresh os rs h.1)
+
+-- a snapshot that was handed out is one of the partition's entry
+pub entry-snapshot : (lines : PartReader → Memory → List Mutation → List OutLine → Type 0) (files : Option Files) (k k' : Shard) (m : State) (key : List ℕ) (s : Snap) → Stands lines files k m → k'.readers ≡ k.readers → IsHeldOf key k'.cache.entries k.unstored.chains k'.unstored.chains s → IsEntrySnapshot k' key s
+entry-snapshot lines files k k' m key s stands same h = record {
+  entry = h.entry;
+  there = h.there;
+  apart = subst (AllByRecursion (λ o. IsOther (cached_of o.1) s)) (sym (ap (λ rs. rs.items) same)) (none-taken lines stands.cached.below m k.unstored.chains s h.fresh k.readers.items m.readers stands.served);
+}
+
+-- what is left by the answer of a call that hands out a snapshot, if it does
+pub beside-of : {E : Type 0} (r : Result (Option Snap) E) (old new : Memory) → IfOk r (λ o. MatchOption o (LeavesRest old new) (λ s. LeavesBut s old new)) → OnErr r (LeavesRest old new) → LeavesBeside (snap_taken r) old new
+beside-of (Ok None) old new h k = h
+beside-of (Ok (Some s)) old new h k = h
+beside-of (Err e) old new h k = k
+
+-- what holds of a snapshot that may have been handed out
+pub if-some : {E : Type 0} (r : Result (Option Snap) E) (P Q : Snap → Type 0) → ((s : Snap) → P s → Q s) → IfOk r (λ o. IfSome o P) → IfOk r (λ o. IfSome o Q)
+if-some (Ok None) P Q f h = tt
+if-some (Ok (Some s)) P Q f h = f s h
+if-some (Err e) P Q f h = tt
 
 -- what holds anyway, and what follows, where a call is done
 pub on-ok : {A E : Type 0} (r : Result A E) (P : Type 0) → P → OnOk r P
@@ -152,13 +226,15 @@ pub on-ok-weaker : {A E : Type 0} (r : Result A E) (P Q : Type 0) → (P → Q) 
 on-ok-weaker (Ok x) P Q f h = f h
 on-ok-weaker (Err e) P Q f h = tt
 
-pub none-some : (o : Option Stream) → o ≡ None → IsSome o → ⊥
+pub none-some : (o : Option Snap) → o ≡ None → IsSome o → ⊥
 none-some None e on = cc
 none-some (Some t) e on = cc
 
 -- a partition was looked up
-pub cached-looked : (schema : SchemaValue) (a b : List (List ℕ × ℕ)) (m n : Memory) (st : State) → LeavesRest m n → ((schema : SchemaValue) (below : Below) → CacheSays schema below m → CacheSays schema below n) → AreEntries b n → IsForgotten m.dropped a b → HaveCached schema a m st → HaveCached schema b n st
-cached-looked schema a b m n st r says are gone h = record {
+abbrev pub cached-looked : (more : ℕ) (schema : SchemaValue) (a b : List (List ℕ × ℕ)) (m n : Memory) (st : State) → IsRest more m n → ((schema : SchemaValue) (below : Below) → CacheSays schema below m → CacheSays schema below n) → AreEntries b n → IsForgotten m.dropped a b → HaveCached schema a m st → HaveCached schema b n st
+cached-looked more schema a b m n st r says are gone h = record {
+  limits = h.limits;
+  small = h.small;
   below = h.below;
   fit = h.fit;
   says = says schema (λ id phase. h.below id) h.says;
@@ -166,7 +242,6 @@ cached-looked schema a b m n st r says are gone h = record {
   are = are;
   one = r.one h.one;
   used = r.used h.one h.used;
-  untaken = untaken-still m n r h.untaken;
 }
 
 -- ---- what is known
@@ -201,16 +276,19 @@ known-pinned entry m mid n first second a b P h = some-known entry (IsChainWhere
 
 -- ---- what a shard stands for
 
-module _ (lines : Opened → Memory → List OutLine → Type 0) (stays : (o : Opened) (m n : Memory) (ls : List OutLine) → StillSeeBoth (snaps_of o) m n → lines o m ls → lines o n ls) where
-  pub used-for : Beside → (told : Option Files) (f : Tabled) (u : Unstored 131072) (n : Memory) (a b : List (List ℕ × ℕ)) (readers : List (ℕ × Opened)) (segments : ℕ) (m : State) → LeavesRest u.chains n → HaveCached f.schema b n m → AreFor lines told f u a readers segments m → AreFor lines told f (in_chains n u) b readers segments m
-  used-for beside told f u n a b readers segments m r cached s = record {
+module _ (lines : PartReader → Memory → List Mutation → List OutLine → Type 0) (stays : Staying lines) where
+  -- where below chains of which no snapshot was taken something else lies now
+  pub used-for : Beside → (told : Option Files) (f : Tabled) (u : Unstored 131072) (n : Memory) (a b : List (List ℕ × ℕ)) (readers : List (ℕ × PartitionReader)) (segments taken : ℕ) (m : State) → IsRest taken u.chains n → (cached : HaveCached f.schema b n m) (s : AreFor lines told f u a readers segments 0 m) →
+      ((id pin : ℕ) → HasCacheSnapshot u.chains id pin → cached.below id ≡ s.cached.below id) → AreFor lines told f (in_chains n u) b readers segments taken m
+  used-for beside told f u n a b readers segments taken m r cached s same = record {
     over = s.over;
-    have = record { sealed = s.have.sealed; later = s.have.later; have = writes-still beside u n r f.schema s.have.sealed s.have.later s.have.have; are = s.have.are; count = s.have.count };
+    have = record { sealed = s.have.sealed; later = s.have.later; have = writes-still beside taken u n r f.schema s.have.sealed s.have.later s.have.have; are = s.have.are; count = s.have.count };
     whole = s.whole;
     left = s.left;
     budget = s.budget;
     sound = sound-less u.chains n m r.segments r.bytes s.sound;
     cached = cached;
-    served = all-served lines stays u.chains n readers m.readers r.seen s.served;
+    taken = (let a = s.taken in let b = r.snapshots in omega (arith, a, b));
+    served = all-served lines stays m m (same-opened m) u.chains n cached.below (stands-cached lines stays f.schema b n m cached) readers m.readers r.seen r.pins (below-served lines s.cached.below cached.below m u.chains readers m.readers same s.served);
     two = s.two;
   }

@@ -1,5 +1,5 @@
 -- A reader that was opened pins its partition.
-use Rattle.std.proofs.Common.{◌≡◌, ℕ, List, sym, ap, subst}
+use Rattle.std.proofs.Common.{◌≡◌, ℕ, List, [], ◌∷◌, ◌++◌, Option, sym, ap, subst, ◌∙◌}
 use Rattle.std.specs.Prelude.{Err, IfOk, IsSomeAnd, Ok, Result}
 use Rattle.std.specs.declared.alloc.AllocError.{AllocError}
 use Rattle.rc_position.specs.declared.slices.Slice.{Slice}
@@ -20,16 +20,20 @@ use Rattle.rc_lookup.specs.Unstored.{Unstored}
 use Rattle.rc_lookup.specs.Memtables.{HaveWrites, in_chains}
 use Rattle.rc_lookup.specs.Readers.{IsSnapshotOfKey, IsTakenIf}
 use Rattle.rc_lookup.specs.Steps.{AreSameKeys}
-use Rattle.rc_lookup.specs.Rest.{LeavesRest}
-use Rattle.rc_opened.specs.declared.opened.Opened.{Opened}
-use Rattle.rc_opened.specs.Opened.{snaps_of}
+use Rattle.rc_chain.specs.declared.chains.Snap.{Snap}
+use Rattle.rc_shard.specs.declared.readers.PartitionReader.{PartitionReader}
+use Rattle.rc_shard.specs.declared.readers.Source.{Source}
+use Rattle.rc_shard.specs.Readers.{snaps_of}
+use Rattle.rc_shard.specs.Using.{LeavesBeside}
+use Rattle.rc_shard.specs.calls.Looking.{snap_in}
+use Rattle.rc_shard.specs.calls.Opened.{IsReaderPinned}
 use Rattle.rc_shard.specs.declared.shard.Shard.{Shard}
 use Rattle.rc_shard.specs.Knowing.{IsCachedWhole, IsKnownOnceOpened, IsPartitionRecent, IsRecentOnceHit}
-use Rattle.rc_shard.specs.Opening.{IsOnePinned, IsOpenedAsTold, PinsPartition}
+use Rattle.rc_shard.specs.Opening.{IsOpenedAsTold, PinsPartition}
 use Rattle.rc_shard.specs.calls.Keeping.{TellsOf}
 
 -- its snapshots are those that were taken, and the chains were lent and are as they were
-pub pinned-in : (key : List ℕ) (u v : Unstored 131072) (m : Memory) (snaps : Snaps) (o : Opened) → m ≡ v.chains → snaps_of o ≡ snaps →
+pub pinned-in : (key : List ℕ) (u v : Unstored 131072) (m : Memory) (snaps : Snaps) (o : PartitionReader) → m ≡ v.chains → snaps_of o ≡ snaps →
     ((schema : SchemaValue) (writes later : List Write) → HaveWrites schema u writes later → IsSnapshotOfKey key writes u.chains v.chains snaps.sealed) →
     ((schema : SchemaValue) (writes later : List Write) → HaveWrites schema u writes later → IsSnapshotOfKey key later u.chains v.chains snaps.active) →
     (mid : Memory) × IsTakenIf u.chains mid snaps.sealed × IsTakenIf mid v.chains snaps.active → AreSameKeys u v → PinsPartition key u (in_chains m v) o
@@ -42,13 +46,14 @@ pinned-in key u v m snaps o lent are sealed active exact keys =
     } in
     subst (λ (x : Memory). PinsPartition key u (in_chains x v) o) (sym lent) made
 
-module _ (id : ℕ) (key : List ℕ) (slice : Slice) (readers : List (ℕ × Opened)) (u : Unstored 131072) (readers' : List (ℕ × Opened)) (v : Unstored 131072) where
+module _ (id : ℕ) (key : List ℕ) (slice : Slice) (readers : List (ℕ × PartitionReader)) (u : Unstored 131072) (readers' : List (ℕ × PartitionReader)) (v : Unstored 131072) where
   -- an opening that is answered is fine
-  pub told-opened : (others : List (ℕ × Opened)) (asked : Unstored 131072) (r : Result Reply AllocError) → others ≡ readers → LeavesRest u.chains asked.chains → AreSameKeys u asked → IfOk r (λ reply. reply ≡ replies.Fine) → IfOk r (λ _. IsOnePinned id key others asked readers' v) →
+  pub told-opened : (others : List (ℕ × PartitionReader)) (asked : Unstored 131072) (source : Source) (r : Result Reply AllocError) → others ≡ readers → LeavesBeside (snap_in source) u.chains asked.chains → AreSameKeys u asked → IfOk r (λ reply. reply ≡ replies.Fine) → IfOk r (λ _. IsReaderPinned id key source others asked readers' v) →
       IfOk r (λ reply. IsOpenedAsTold (OpenRead id key slice) reply readers u readers' v)
-  told-opened others asked (Ok reply) same rest keys fine pins =
-      subst (λ q. IsOpenedAsTold (OpenRead id key slice) q readers u readers' v) (sym fine) (asked, rest, keys, subst (λ os. IsOnePinned id key os asked readers' v) same pins)
-  told-opened others asked (Err e) same rest keys fine pins = tt
+  told-opened others asked source (Ok reply) same rest keys fine pins =
+      subst (λ q. IsOpenedAsTold (OpenRead id key slice) q readers u readers' v) (sym fine)
+      (record { reader = pins.0; behind = pins.1 ∙ ap (λ (os : List (ℕ × PartitionReader)). os ++ (id, pins.0) ∷ []) same; asked = asked; rest = subst (λ (o : Option Snap). LeavesBeside o u.chains asked.chains) (sym pins.2) rest; keys = keys; pins = pins.3 })
+  told-opened others asked source (Err e) same rest keys fine pins = tt
 
   -- one that is refused is not
   pub told-unread : (e : StreamErr) (r : Result Reply AllocError) → IfOk r (TellsOf e) → IfOk r (λ reply. IsOpenedAsTold (OpenRead id key slice) reply readers u readers' v)

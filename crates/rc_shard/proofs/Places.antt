@@ -1,7 +1,9 @@
 -- The place of the reader with an id.
-use Rattle.std.proofs.Common.{◌≡◌, ◌==◌, ◌+◌, ◌<◌, ◌≤◌, ℕ, zero, suc, Bool, true, false, cond, not, List, [], ◌∷◌, length, get_or, Option, Some, None, is_some, refl, sym, arith, nat_lt}
+use Rattle.std.proofs.Common.{◌≡◌, ◌==◌, ◌+◌, ◌<◌, ◌≤◌, ℕ, zero, suc, Bool, true, false, cond, not, List, [], ◌∷◌, length, get_or, set, Option, Some, None, is_some, refl, sym, ap, ◌∙◌, arith, nat_lt}
 use Rattle.std.specs.List.{position, position_or_len}
 use Rattle.std.proofs.lemmas.Bool.Decides.{nat_tests}
+use Rattle.std.proofs.lemmas.List.{length-set}
+use Rattle.std.proofs.lemmas.List.Folds.{position_or_len-set}
 use Rattle.std.proofs.lemmas.List.Quantifiers.{position-Some}
 
 none-is : (b : Bool) (n : ℕ) → cond b (Some n) None ≡ None → b ≡ false
@@ -28,6 +30,12 @@ module _ {X : Type 0} where
   pub place-of : (id : ℕ) (os : List (ℕ × X)) (at : ℕ) → position (λ o. o.0 == id) os ≡ Some at → IsPlace id os at
   place-of id [] at e = absurd (cc)
   place-of id (o ∷ os) at e = let p = position-Some (λ (x : ℕ × X). x.0 == id) (o ∷ os) at o e in place-from id (o ∷ os) at o p.0 p.1 p.2
+
+  -- there is no other at it
+  pub same-there : (id : ℕ) (os : List (ℕ × X)) (at : ℕ) (d e : ℕ × X) → IsPlace id os at → get_or os at d ≡ d → get_or os at e ≡ e → d ≡ e
+  same-there id [] at d e p a b = absurd p
+  same-there id (o ∷ os) zero d e p a b = sym a ∙ b
+  same-there id (o ∷ os) (suc at) d e p a b = same-there id os at d e p.1 a b
 
   -- there is one
   pub one-of : (id : ℕ) (os : List (ℕ × X)) (at : ℕ) → IsPlace id os at → ℕ × X
@@ -60,3 +68,21 @@ module _ {X : Type 0} where
   nowhere-of id os e =
       let p = none-is (nat_lt (position_or_len (λ (o : ℕ × X). o.0 == id) os) (length os)) (position_or_len (λ (o : ℕ × X). o.0 == id) os) e in
       nowhere-from id os (grind (arith, nat_tests, p))
+
+  -- a place stays where another one of the same id stands at it
+  pub position-set : (id : ℕ) (os : List (ℕ × X)) (at : ℕ) (x d : ℕ × X) → x.0 ≡ (get_or os at d).0 → position (λ o. o.0 == id) (set os at x) ≡ position (λ o. o.0 == id) os
+  position-set id os at x d same =
+      let e = position_or_len-set (λ (o : ℕ × X). o.0 == id) os at x d (ap (λ n. n == id) same) in
+      let l = length-set os at x in
+      λ i. cond (nat_lt (e i) (l i)) (Some (e i)) None
+
+  -- one that stands at it
+  pub own-place : (id : ℕ) (os : List (ℕ × X)) (at : ℕ) (d : ℕ × X) → IsPlace id os at → get_or os at (get_or os at d) ≡ get_or os at d
+  own-place id [] at d p = absurd p
+  own-place id (o ∷ os) zero d p = refl
+  own-place id (o ∷ os) (suc at) d p = own-place id os at d p.1
+
+  pub set-place : (id : ℕ) (os : List (ℕ × X)) (at : ℕ) (x : ℕ × X) → IsPlace id os at → get_or (set os at x) at x ≡ x
+  set-place id [] at x p = absurd p
+  set-place id (o ∷ os) zero x p = refl
+  set-place id (o ∷ os) (suc at) x p = set-place id os at x p.1

@@ -2,16 +2,17 @@
 --     IsCachedWhole          all of a partition is known
 --     IsChainWhere, IsCachedWhere    of the chain of a partition something holds
 --     IsCachedAt, IsStaticCached     a position is known, or the static row
---     OnOpening, OnOpened    what holds of an opening's key, and where a reader was opened
---     AsksNothingWhereKnown  a partition that is known is opened without asking the store
+--     OnOpened               what holds of an opening's key, where a reader was opened
+--     AsksNothingWhereKnown  a partition that is known is opened and read without asking the store
 --     IsKnownOnceOpened      a partition that was opened is known
 --     IsPartitionRecent      its objects are the most recent ones
 --     IsRecentOnceHit        so they are once it was opened, where it was known before
+--     IsGonePast         what a reader leaves that goes on past the row cache
 --     IsReaderTouched    the rows of lines are the most recent ones of a reader's partition
 --     IsTouchedAsGiven   so those are that a read gives
---     IsUnwritten, Spares    a partition that no memtable has; which partitions a command leaves
+--     IsUnwritten, IsPartitionListed, Spares    a partition that no memtable has; one of which something could be evicted; which partitions a command leaves
 --     IsKnownStill, StaysKnown    what is known stays known
-use Rattle.std.specs.Prelude.{◌≡◌, ◌==◌, ℕ, IfSome, IsSomeAnd, IsTrue, List, None, ⊤}
+use Rattle.std.specs.Prelude.{◌≡◌, ◌==◌, ◌⊎◌, ℕ, IfSome, IsSomeAnd, IsTrue, List, None, Option, ⊤}
 use Rattle.std.specs.Map.{lookup}
 use Rattle.rc_position.specs.declared.positions.Pos.{Pos}
 use Rattle.rc_core.specs.Chain.{has_flag}
@@ -24,7 +25,7 @@ use Rattle.rc_snapshots.specs.Snapshots.{IsKnownAs}
 use Rattle.rc_snapshots.specs.Streams.{first_position}
 use Rattle.rc_query.specs.declared.lines.OutLine.{OutLine}
 use Rattle.rc_lines.specs.declared.commands.Command.{Command}
-use Rattle.rc_lines.specs.declared.commands.Command.TheVariants.{Flush, OpenRead, Read}
+use Rattle.rc_lines.specs.declared.commands.Command.TheVariants.{Close, Flush, OpenRead, Read}
 use Rattle.rc_lines.specs.declared.commands.Reply.{Reply}
 use Rattle.rc_lines.specs.declared.commands.Reply.TheVariants.{Fine, Given}
 use Rattle.rc_lookup.specs.Found.{entry_number}
@@ -33,7 +34,11 @@ use Rattle.rc_stream.specs.Snapshot.{NoneLost, Throughout}
 use Rattle.rc_lookup.specs.Known.{IsChainKnown}
 use Rattle.rc_lookup.specs.Touched.{AreTouched, IsEntryOfGiven, IsMadeRecent}
 use Rattle.rc_lookup.specs.Writes.{chain_of}
-use Rattle.rc_opened.specs.declared.opened.Opened.{Opened}
+use Rattle.rc_chain.specs.declared.chains.Snap.{Snap}
+use Rattle.rc_paging.specs.Pages.{IsKnownWhole}
+use Rattle.rc_shard.specs.declared.readers.PartitionReader.{PartitionReader}
+use Rattle.rc_shard.specs.Readers.{cached_of}
+use Rattle.rc_shard.specs.Releasing.{IsCachedReleased, IsListed}
 use Rattle.rc_shard.specs.declared.shard.Shard.{Shard}
 
 -- the row cache knows all of a partition: its static row, and each row and each gap between rows
@@ -56,19 +61,16 @@ IsCachedAt k key x = IsCachedWhere (λ kind versions. IsKnownFrom (IsKnownAs kin
 abbrev pub IsStaticCached : Shard → List ℕ → Type 0
 IsStaticCached k key = IsCachedWhere (λ kind versions. IsTrue (has_flag kind (static_states versions))) k key
 
--- of the key of an opening this holds
-abbrev pub OnOpening : Command → (List ℕ → Type 0) → Type 0
-OnOpening (OpenRead id key slice) P = P key
-OnOpening command P = ⊤
-
 -- so, where a reader was opened
 abbrev pub OnOpened : Command → Reply → (List ℕ → Type 0) → Type 0
 OnOpened (OpenRead id key slice) Fine P = P key
 OnOpened command reply P = ⊤
 
--- A cache hit: where the row cache knows all of a partition, opening a reader of it asks the store for nothing, whatever the reply.
+-- A cache hit: where the row cache knows all of a partition, opening a reader of it asks the store for nothing, whatever the reply; and so does a read of a reader to whose snapshot of the row cache all of its partition is known, or that reads past the cache.
 abbrev pub AsksNothingWhereKnown : Command → Shard → (before now : ℕ) → Type 0
-AsksNothingWhereKnown command k before now = OnOpening command (λ key. IsCachedWhole k key → now ≡ before)
+AsksNothingWhereKnown (OpenRead id key slice) k before now = IsCachedWhole k key → now ≡ before
+AsksNothingWhereKnown (Read id count) k before now = IfSome (lookup (λ q. q == id) k.readers.items) (λ o. IsKnownWhole k.unstored.chains (cached_of o) → now ≡ before)
+AsksNothingWhereKnown command k before now = ⊤
 
 -- Once a reader of a partition is opened the row cache knows all of the partition, also what no table holds of it, unless memory was too small for that meanwhile: something of the cache was evicted, or not taken in.
 abbrev pub IsKnownOnceOpened : Command → Reply → Shard → Shard → Type 0
@@ -82,10 +84,16 @@ IsPartitionRecent key k k' = IsSomeAnd (entry_number k'.cache.entries key) (λ i
 abbrev pub IsRecentOnceHit : Command → Reply → Shard → Shard → Type 0
 IsRecentOnceHit command reply k k' = OnOpened command reply (λ key. IsCachedWhole k key → IsPartitionRecent key k k')
 
--- the entries of the rows of lines, in the partition of a reader, are the most recent objects of the row cache, all that were in the recency list; all others stand in the order in which they stood, and nothing else of the cache or of memory changed
-pub record IsReaderTouched (lines : List OutLine) (o : Opened) (k k' : Shard) : Type 0 where
+-- memory is as it was, or a reader's snapshot of the row cache was taken back, as it goes on past that
+abbrev pub IsGonePast : Option Snap → Memory → Memory → Type 0
+IsGonePast snap old new = (new ≡ old) ⊎ IsSomeAnd snap (λ s. IsCachedReleased s old new)
+
+-- the entries of the rows of lines, in the partition of a reader, are the most recent objects of the row cache, all that were in the recency list; all others stand in the order in which they stood, and nothing else of the cache or of memory changed, but that its snapshot of the row cache was taken back where it goes on past that
+pub record IsReaderTouched (lines : List OutLine) (o : PartitionReader) (k k' : Shard) : Type 0 where
   pub cache : k'.cache ≡ k.cache
-  pub touched : AreTouched (IsEntryOfGiven (entry_number k.cache.entries o.key) lines) k.unstored.chains k'.unstored.chains
+  pub read : Memory
+  pub past : IsGonePast (cached_of o) k.unstored.chains read
+  pub touched : AreTouched (IsEntryOfGiven (entry_number k.cache.entries o.key) lines) read k'.unstored.chains
 
 -- What is read stays: the entries of the rows that a read gives are the most recent objects of the row cache, those of its reader's partition. So what is evicted first is what was opened or read longest ago.
 abbrev pub IsTouchedAsGiven : Command → Reply → Shard → Shard → Type 0
@@ -97,9 +105,15 @@ pub record IsUnwritten (k : Shard) (key : List ℕ) : Type 0 where
   pub sealed : chain_of k.unstored.sealed key ≡ None
   pub active : chain_of k.unstored.active key ≡ None
 
--- a flush leaves the partitions that are written in no memtable, and any other command each
+-- something of the chain of a partition could be evicted; of others no position is known
+abbrev pub IsPartitionListed : Shard → List ℕ → Type 0
+IsPartitionListed k key = IsSomeAnd (entry_number k.cache.entries key) (IsListed k.unstored.chains)
+
+-- a flush leaves the partitions that are written in no memtable; a read and a closing, with which a snapshot may be taken back, those of which something could be evicted; and any other command each
 abbrev pub Spares : Command → Shard → List ℕ → Type 0
 Spares Flush k key = IsUnwritten k key
+Spares (Read id count) k key = IsPartitionListed k key
+Spares (Close id) k key = IsPartitionListed k key
 Spares command k key = ⊤
 
 -- what the row cache knew of a partition it knows still: each position, the static row, and all of it
@@ -108,6 +122,6 @@ pub record IsKnownStill (key : List ℕ) (old new : Shard) : Type 0 where
   pub static_row : IsStaticCached old key → IsStaticCached new key
   pub whole : IsCachedWhole old key → IsCachedWhole new key
 
--- What the row cache knows of a partition it knows still, unless something of the cache was evicted or not taken in meanwhile, or the partition was written to a table. So a partition of which anything is known is there still.
+-- What the row cache knows of a partition it knows still, unless something of the cache was evicted or not taken in meanwhile, or the partition was written to a table, or the last snapshot was taken back of a chain of which nothing is left. So a partition of which a position is known is there still.
 abbrev pub StaysKnown : Command → Shard → Shard → Type 0
 StaysKnown command k k' = NoneLost (losses k.unstored.chains) (losses k'.unstored.chains) → (key : List ℕ) → Spares command k key → IsKnownStill key k k'

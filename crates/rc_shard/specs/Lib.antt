@@ -1,4 +1,7 @@
 pub mod Cached
+pub mod Readers
+pub mod Releasing
+pub mod Using
 pub mod Stands
 pub mod Counting
 pub mod Compacting

@@ -3,3 +3,7 @@ pub mod Caching
 pub mod Keeping
 pub mod Looking
 pub mod Storing
+pub mod Staying
+pub mod Opened
+pub mod Reading
+pub mod Resaying

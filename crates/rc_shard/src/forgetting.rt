@@ -3,6 +3,7 @@ ghost use Rattle.std.specs.Prelude.{◌≡◌, ◌∷◌, []};
 ghost use Rattle.rc_shard.specs.calls.Caching.{Forgets, HasCache};
 ghost use Rattle.rc_shard.specs.calls.Storing.{KeepsWritten};
 
+use crate::releasing::calls_leave_the_snapshots_of_the_cache;
 use rc_lookup::entries_laws::each_key_is_found;
 use rc_lookup::footprint::{
     chains_of_the_cache_stay_in_use, each_chain_of_the_cache_has_one_version,
@@ -20,6 +21,7 @@ fn forget_one(cache: &mut RowCache, unstored: &mut Unstored<131_072>, part: &Par
     ensures keeps { KeepsWritten unstored.old unstored.new }
     ensures counts { unstored.new.chains.counts ≡ unstored.old.chains.counts }
 {
+    calls_leave_the_snapshots_of_the_cache();
     chains_of_the_cache_stay_in_use();
     each_chain_of_the_cache_has_one_version();
     each_key_is_found();

@@ -1,5 +1,5 @@
 //! What calls on memtables leave of the row cache.
-ghost use Rattle.std.specs.Prelude.{◌≡◌, ◌≤◌, ◌+◌, ℕ, [], IfSome, List, Option, Some, None, map};
+ghost use Rattle.std.specs.Prelude.{◌≡◌, ◌≤◌, ◌+◌, ◌*◌, ℕ, [], IfSome, List, Option, Some, None, map};
 ghost use Rattle.lsa_region.specs.Region.{live_bytes};
 ghost use Rattle.rc_schema.specs.SchemaValue.{SchemaValue};
 ghost use Rattle.rc_writes.specs.Weight.{weight};
@@ -24,15 +24,14 @@ ghost use Rattle.rc_lookup.specs.Unstored.{Unstored};
 ghost use Rattle.rc_lookup.specs.Memtables.{HaveWrites};
 ghost use Rattle.rc_lookup.specs.Readers.{IsReleasedIf, IsTakenIf};
 ghost use Rattle.rc_lookup.specs.Steps.{AreObjectsMoved, IsPutBehind};
-ghost use Rattle.rc_lookup.specs.Footprint.{AreInUse, HaveOneVersion, memtable_bytes};
-ghost use Rattle.rc_shard.specs.Cached.{AreUntaken};
-ghost use Rattle.rc_shard.specs.Stands.{AreOfTwo};
+ghost use Rattle.rc_lookup.specs.Footprint.{AreInUse, HaveOneVersion, cache_snapshots, memtable_bytes};
+ghost use Rattle.rc_shard.specs.Readers.{AreOfTwo};
 ghost use Rattle.rc_shard.specs.calls.Caching.{KeepsCache, LeavesCache};
 
+use crate::releasing::calls_leave_the_snapshots_of_the_cache;
 use rc_lookup::entries_laws::{
     each_change_leaves_the_caches_chains, what_leaves_the_caches_chains_leaves_the_entries,
 };
-use rc_lookup::evict_laws::evictions_leave_the_use_of_a_chain;
 use rc_lookup::footprint::{
     a_write_is_of_a_memtable, chains_of_the_cache_stay_in_use,
     each_chain_of_the_cache_has_one_version, little_is_left_where_nothing_may_be_evicted,
@@ -57,11 +56,11 @@ pub(crate) fn what_calls_leave_of_the_cache()
         HaveWrites schema old writes later → LeavesCache old.chains new.chains × (memtable_bytes new.chains ≤ memtable_bytes old.chains + weight w.change) }
 {
     a_write_is_of_a_memtable();
+    calls_leave_the_snapshots_of_the_cache();
     calls_on_memtables_leave_the_cache();
     chains_of_the_cache_stay_in_use();
     each_chain_of_the_cache_has_one_version();
     each_change_leaves_the_caches_chains();
-    evictions_leave_the_use_of_a_chain();
     room_leaves_the_entries();
     the_cache_says_what_lies_below();
     what_a_call_leaves_of_the_room();
@@ -69,11 +68,11 @@ pub(crate) fn what_calls_leave_of_the_cache()
     what_leaves_the_caches_chains_leaves_the_entries();
 }
 
-// Where no chain of the row cache is there it has what it must. And where nothing is left that may be evicted all that is live is of memtables, if between two steps the cache has what it must.
+// Where no chain of the row cache is there it has what it must. And where nothing is left that may be evicted all that is live is of memtables, but for 152 bytes for each snapshot of the cache, if between two steps the cache has what it must.
 pub(crate) fn what_is_live_is_of_memtables()
     ensures none { (m : Memory) → ((id : ℕ) (k : KeptChain) → chain_at m id ≡ Some k → k.chain.kind ≡ Cache → ⊥) → HaveOneVersion m × AreInUse m }
     ensures live { (m : Memory) → IsRecency m → ((id j : ℕ) → OfVersion m id j (λ k v. IsVersion v)) → ((id : ℕ) → IfSome (chain_at m id) (λ k. IsSoundChain k.chain)) → IsLiveInChains m → m.recency ≡ [] →
-        HaveOneVersion m → AreInUse m → AreUntaken m → live_bytes m.region ≤ memtable_bytes m }
+        HaveOneVersion m → AreInUse m → live_bytes m.region ≤ memtable_bytes m + 152 * cache_snapshots m }
 {
     chains_of_the_cache_stay_in_use();
     each_chain_of_the_cache_has_one_version();

@@ -6,7 +6,11 @@ mod evicting;
 mod forgetting;
 mod leaving;
 mod putting;
+mod readers;
+mod releasing;
+mod resaying;
 mod shard;
+mod staying;
 
 pub use rc_folder::{Answered, Machine, OpenErr};
 pub use shard::Shard;

@@ -1,14 +1,14 @@
 //! The shard.
-ghost use Rattle.std.specs.Prelude.{◌≡◌, ◌+◌, ◌*◌, ◌≤◌, ◌==◌, ◌++◌, ◌∷◌, [], ℕ, AllPairs, List, Option, None, Some, IsSome, IsTrue, IfErr, IfOk, IfSome, OnErr, OnOk, map, position};
+ghost use Rattle.std.specs.Prelude.{◌≡◌, ◌+◌, ◌*◌, ◌≤◌, ◌<◌, ◌==◌, ◌++◌, ◌∷◌, [], ℕ, AllPairs, List, Option, None, Some, IsSome, IsTrue, IfErr, IfOk, IfSome, OnErr, OnOk, get_or, length, map, position};
 ghost use Rattle.std.specs.FinMap.{values};
 ghost use Rattle.std.specs.List.{AllByRecursion};
+ghost use Rattle.std.specs.Vec.{vec_capacity};
 ghost use Rattle.rc_outside.specs.Files.{Files, HoldsSameFiles};
 ghost use Rattle.rc_outside.specs.Faults.{RisesIfFault, Rose};
 ghost use Rattle.rc_mutation.specs.declared.mutations.Mutation.{Mutation as Change};
 ghost use Rattle.rc_mutation.specs.declared.mutations.Write.{Write as Written};
 ghost use Rattle.rc_mutation.specs.Fragments.{fragments};
 ghost use Rattle.rc_mutation.specs.Source.{IsJoinOf, IsMutation, changes_to};
-ghost use Rattle.rc_query.specs.Answer.{answer};
 ghost use Rattle.rc_schema.specs.SchemaValue.{SchemaValue};
 ghost use Rattle.rc_writes.specs.Allowed.{ChangeFits};
 ghost use Rattle.rc_stream.specs.Causes.{Caused};
@@ -16,12 +16,16 @@ ghost use Rattle.rc_stream.specs.Snapshot.{NoneLost};
 ghost use Rattle.rc_stream.specs.Stream.{stream_of};
 ghost use Rattle.rc_memory.specs.Memory.{HasPin};
 ghost use Rattle.rc_chain.specs.declared.chains.Snap.{Snap as Snapshot};
-ghost use Rattle.rc_snapshots.specs.Seeing.{AreThere};
+ghost use Rattle.rc_snapshots.specs.Seeing.{SeesAllOf};
 ghost use Rattle.rc_lookup.specs.Crowding.{LosesWhereCrowded};
 ghost use Rattle.rc_lookup.specs.Fillers.{losses};
-ghost use Rattle.rc_lookup.specs.Memtables.{HaveWrites};
+ghost use Rattle.rc_lookup.specs.Found.{entry_number};
+ghost use Rattle.rc_lookup.specs.Memtables.{HaveWrites, in_chains};
 ghost use Rattle.rc_lookup.specs.Readers.{IsNoneOf};
-ghost use Rattle.rc_opened.specs.Opened.{AreChangesOf, snaps_of};
+ghost use Rattle.rc_lookup.specs.Touched.{AreTouched, IsEntryOfGiven};
+ghost use Rattle.rc_opened.specs.Opened.{AreChangesOf};
+ghost use Rattle.rc_paging.specs.Forms.{held_by};
+ghost use Rattle.rc_paging.specs.Pages.{IsKnownWhole};
 ghost use Rattle.rc_tables.specs.Tables.{IsDamageOf, listing};
 ghost use Rattle.rc_lines.specs.Fits.{CommandFits};
 ghost use Rattle.rc_machine.specs.Built.{is_built};
@@ -32,16 +36,21 @@ ghost use Rattle.rc_machine.specs.Steps.{IsSaid, reader_with};
 ghost use Rattle.rc_tfile.specs.declared.info.TableInfo.{TableInfo};
 ghost use Rattle.rc_folder.specs.Counting.{AreCounted, AreFresh, figures_in};
 ghost use Rattle.rc_folder.specs.Opening.{IsOpeningRefused, OnOpenFault};
-ghost use Rattle.rc_folder.specs.Tabled.{IsNextNumber};
+ghost use Rattle.rc_folder.specs.Tabled.{IsNextNumber, IsSaidByFirst};
 ghost use Rattle.rc_shard.specs.Counting.{figures_of};
 ghost use Rattle.rc_shard.specs.Compacting.{IsCompactedAsTold};
 ghost use Rattle.rc_shard.specs.Evicting.{IsEvictedAsTold, IsLostAsTold};
 ghost use Rattle.rc_shard.specs.Losing.{IsLostInCrowd, LosesForWrite, LosesInCrowd};
 ghost use Rattle.rc_shard.specs.Knowing.{AsksNothingWhereKnown, IsCachedWhole, IsKnownOnceOpened, IsKnownStill, IsPartitionRecent, IsRecentOnceHit, IsTouchedAsGiven, StaysKnown};
-ghost use Rattle.rc_shard.specs.Opening.{IsOnePinned, IsOpenedAsTold, PinsPartition};
-ghost use Rattle.rc_shard.specs.Stands.{AreOfTwo, AreTwo, IsFullAsTold, holding};
+ghost use Rattle.rc_shard.specs.Opening.{IsOpenedAsTold, PinsPartition};
+ghost use Rattle.rc_shard.specs.Readers.{AreHeld, AreOfTwo, AreTwo, IsCachedThere, cached_of, count_of, holding, snaps_of};
+ghost use Rattle.rc_shard.specs.Releasing.{IsGivenBack};
+ghost use Rattle.rc_shard.specs.Stands.{IsFullAsTold, StandsBeside};
+ghost use Rattle.rc_shard.specs.calls.Caching.{LeavesCache};
 ghost use Rattle.rc_shard.specs.calls.Keeping.{CountsStay, StandsForTheSame, TellsOf};
-ghost use Rattle.rc_shard.specs.calls.Looking.{AreKnownStill, IsCacheLeft, IsCacheUsed, IsTabled, KeepsOver, UnlessMemory};
+ghost use Rattle.rc_shard.specs.calls.Looking.{AreKnownStill, IsCacheLeft, IsCacheUsed, IsEntrySnapshot, IsSourceIn, KeepsOver, UnlessMemory, snap_in, snap_taken, source_taken};
+ghost use Rattle.rc_shard.specs.calls.Opened.{AreBothReleased, AreHeldReleased, IsOpenedOver, IsReadSource, IsReadWhole, IsReaderPinned, IsSourceLetGo, TellsBelow};
+ghost use Rattle.rc_shard.specs.calls.Reading.{IsBesideChains, IsGonePastAt, IsPaged, IsPagedBeside, IsGoneOn};
 ghost use Rattle.rc_shard.specs.calls.Storing.{IsFlushAnswered, KeepsUnstored};
 
 use crate::compacting::compact;
@@ -49,7 +58,12 @@ use crate::evicting::evict;
 use crate::forgetting::forget_all;
 use crate::leaving::{what_calls_leave_of_the_cache, what_is_live_is_of_memtables};
 use crate::putting::put_in;
+use crate::readers::{Opening, PartitionReader, Source};
+use crate::releasing::{give_back, release_cached};
+use crate::resaying::what_is_told_anew;
+use crate::staying::a_reader_stays;
 use rc_census::census;
+use rc_chain::Snap;
 use rc_folder::{Answered, Folder, MOST_READERS, Machine, OpenErr};
 use rc_lines::{Command, Figures, Refusal, Reply};
 use rc_lookup::footprint::what_is_let_go_counts_nothing;
@@ -59,26 +73,32 @@ use rc_lookup::unstored_laws::{
     both_say_what_was_written, what_a_call_leaves_of_the_room, what_a_snapshot_of_a_key_sees,
     what_leaves_the_chains_of_both_leaves_their_writes,
 };
-use rc_lookup::{Chains, RowCache, Unstored, keep_recent, lookup, populate};
+use rc_lookup::{Chains, RowCache, Unstored, keep_recent, take_known, take_populated};
 use rc_mutation::laws::a_join_says_what_the_writes_say;
 use rc_mutation::{Mutation, Write};
-use rc_opened::{Leaves, Opened, what_is_left_stays_where_the_snapshots_see_the_same};
+use rc_opened::OpenedBehind;
+use rc_opened::laws::writes_have_a_join;
 use rc_outside::Store;
+use rc_paging::{HeldSnaps, LeavesOver, OpenReader, PageErr, PartReader};
 use rc_position::{PartKey, Slice};
+use rc_query::Lines;
+use rc_query::laws::answer_of_joined_writes;
 use rc_schema::Schema;
+use rc_snapshots::Snaps;
 use rc_stream::{ListFrags, StreamErr};
 use rc_tfile::WriteErr;
 use rc_writes::laws::what_says_the_same_fits;
 use std::alloc::{AllocError, Global};
 
 /// One shard: it takes one step of the machine after another. What is written and stands in no table lies in version chains, in a region
-/// of segments of 131,072 bytes, and so does what the row cache knows of the tables. An open reader pins the versions that it sees; what the
-/// tables say of its partition it is told once, when it is opened, by the row cache where that knows all of it, else by the tables.
+/// of segments of 131,072 bytes, and so does what the row cache knows of the tables. An open reader pins the versions that it sees, of what is
+/// written and of what the row cache knows of its partition, which is filled with it where it does not know it; where it knows no longer what a
+/// read needs, as it was evicted, the reader goes on past it, over what it reads of the tables that it was opened over.
 pub struct Shard {
     folder: Folder,
     unstored: Unstored<131_072>,
     cache: RowCache,
-    readers: Vec<(u32, Opened)>,
+    readers: Vec<(u32, PartitionReader)>,
     answered: Answered,
     segments: u32,
     asked: u64,
@@ -88,7 +108,7 @@ impl Machine for Shard {
     ghost use Rattle.rc_shard.specs.Counting.{figures_of};
     ghost use Rattle.rc_shard.specs.Stands.{Stands};
 
-    ghost stands = { Stands ⟦<Opened as Leaves<Chains<131_072>>>⟧.lines };
+    ghost stands = { Stands ⟦<PartReader as LeavesOver<Chains<131_072>>>⟧.lines };
 
     ghost folder = { λ k. k.folder };
 
@@ -118,6 +138,10 @@ impl Machine for Shard {
         what_is_live_is_of_memtables();
         the_cache_says_what_lies_below();
         let folder = Folder::open(alloc, store, schema)?;
+        let schema = folder.schema();
+        let _columns = schema.cols();
+        let _entry = schema.largest_entry();
+        let _statics = schema.largest_static();
         let cache = RowCache::new(alloc);
         match Unstored::open(alloc, segments) {
             Ok(unstored) => Ok(Shard {
@@ -252,16 +276,16 @@ impl Shard {
             Command::SetSchema(schema) => Ok(self.set_schema(schema)),
             Command::Put(write) => self.put(alloc, write),
             Command::OpenRead { id, key, slice } => self.open_read(alloc, store, *id, key, slice),
-            Command::Read { id, count } => self.read(alloc, *id, *count),
+            Command::Read { id, count } => self.read(alloc, store, *id, *count),
             Command::Close { id } => Ok(self.close_reader(*id)),
             Command::Flush => self.flush(alloc, store),
             Command::Evict { count } => {
-                what_is_left_stays_where_the_snapshots_see_the_same::<131_072>();
+                a_reader_stays();
                 evict(&mut self.unstored, *count);
                 Ok(Reply::Fine)
             }
             Command::Compact { count } => {
-                what_is_left_stays_where_the_snapshots_see_the_same::<131_072>();
+                a_reader_stays();
                 compact(&mut self.unstored, *count);
                 Ok(Reply::Fine)
             }
@@ -297,7 +321,7 @@ impl Shard {
         ensures err { OnErr result (StandsForTheSame ⟦<Shard as Machine>⟧.stands self.old self.new) }
         ensures counts { CountsStay self.old self.new }
     {
-        what_is_left_stays_where_the_snapshots_see_the_same::<131_072>();
+        a_reader_stays();
         write.change.holds_together();
         let schema = self.folder.schema();
         let _entry = schema.largest_entry();
@@ -338,76 +362,85 @@ impl Shard {
         if self.readers.len() >= MOST_READERS {
             return Ok(Reply::Refused(Refusal::TooManyReaders));
         }
-        match self.tables_of(alloc, store, key) {
-            Ok(list) => self.open_over(alloc, id, key, slice, list),
+        self.readers.reserve(1)?;
+        let opening = self.opening(alloc, key, slice)?;
+        match self.source_of(alloc, store, key) {
+            Ok(source) => self.open_over(alloc, id, opening, source),
             Err(error) => not_read(error),
         }
     }
 
-    // What the tables say of a partition, as the stream of its fragments: from the row cache, where that knows all of it; else they are read, and the cache is filled.
-    fn tables_of<W: Store>(
+    // What a reader is opened by. The only error is want of memory.
+    fn opening(&self, alloc: Global, key: &PartKey, slice: &Slice) -> Result<Opening, AllocError>
+        ensures { IfOk result (λ opening. opening ≡ record { key = key.now; slice = slice.now; tables = self.now.folder.infos }) }
+    {
+        Ok(Opening {
+            key: key.copy(alloc)?,
+            slice: slice.copy(alloc)?,
+            tables: self.folder.tables()?,
+        })
+    }
+
+    // What tells what the tables say of a partition: a snapshot of the row cache, where that knows all of it; else they are read, and the cache is filled.
+    fn source_of<W: Store>(
         &mut self,
         alloc: Global,
         store: &mut W,
         key: &PartKey,
-    ) -> Result<ListFrags, StreamErr>
+    ) -> Result<Source, StreamErr>
         requires { (m : State) × ⟦<Shard as Machine>⟧.stands (W.files store.old) self.old m }
-        ensures says { (m : State) → ⟦<Shard as Machine>⟧.stands (W.files store.old) self.old m → IfOk result (IsTabled m key.now) }
+        ensures says { (m : State) → ⟦<Shard as Machine>⟧.stands (W.files store.old) self.old m → IfOk result (IsSourceIn self.new m key.now) }
         ensures known { IsCachedWhole self.old key.now → W.asks store.new ≡ W.asks store.old }
         ensures whole { OnOk result (NoneLost (losses self.old.unstored.chains) (losses self.new.unstored.chains) → IsCachedWhole self.new key.now) }
         ensures stays { UnlessMemory result (AreKnownStill self.old self.new) }
         ensures hit { OnOk result (IsCachedWhole self.old key.now → IsPartitionRecent key.now self.old self.new) }
-        ensures keeps { KeepsOver ⟦<Shard as Machine>⟧.stands (W.files store.old) self.old self.new }
+        ensures keeps { (m : State) → ⟦<Shard as Machine>⟧.stands (W.files store.old) self.old m → StandsBeside ⟦<PartReader as LeavesOver<Chains<131_072>>>⟧.lines (count_of (source_taken result)) (W.files store.old) self.new m }
         ensures loses { LosesWhereCrowded 131072 1 self.old.unstored.chains self.new.unstored.chains }
-        ensures beside { IsCacheUsed self.old self.new }
+        ensures beside { IsCacheUsed (source_taken result) self.old self.new }
         ensures damaged { IfErr result (IsDamageOf self.old.folder.schema key.now self.old.folder.infos) }
         ensures cause { Caused result (W.files store.old) (W.faults store.old) (W.faults store.new) }
         ensures store { HoldsSameFiles W.files W.building store.old store.new }
         ensures asks { W.asks store.new ≤ W.asks store.old + 2 * listing key.now self.old.folder.infos }
     {
         match self.look_up(alloc, key) {
-            Ok(Some(list)) => Ok(list),
+            Ok(Some(snap)) => Ok(Source::Cached(snap)),
             Ok(None) => self.read_tables(alloc, store, key),
             Err(_) => Err(StreamErr::NoMemory),
         }
     }
 
-    // What the row cache says of a partition, as the stream of its fragments, where it knows all of it. The only error is want of memory.
-    fn look_up(&mut self, alloc: Global, key: &PartKey) -> Result<Option<ListFrags>, AllocError>
+    // A snapshot of what the row cache has of a partition, where it knows all of it. The only error is want of memory.
+    fn look_up(&mut self, alloc: Global, key: &PartKey) -> Result<Option<Snap>, AllocError>
         requires { (files : Option Files) × (m : State) × ⟦<Shard as Machine>⟧.stands files self.old m }
-        ensures says { (files : Option Files) (m : State) → ⟦<Shard as Machine>⟧.stands files self.old m → IfOk result (λ o. IfSome o (IsTabled m key.now)) }
+        ensures says { (files : Option Files) (m : State) → ⟦<Shard as Machine>⟧.stands files self.old m → IfOk result (λ o. IfSome o (IsEntrySnapshot self.new key.now)) }
         ensures known { IsCachedWhole self.old key.now → IfOk result IsSome }
         ensures whole { IfOk result (λ o. IfSome o (λ _. IsCachedWhole self.new key.now)) }
         ensures stays { (q : List ℕ) → IsKnownStill q self.old self.new }
         ensures hit { IfOk result (λ o. IfSome o (λ _. IsPartitionRecent key.now self.old self.new)) }
-        ensures keeps { StandsForTheSame ⟦<Shard as Machine>⟧.stands self.old self.new }
+        ensures keeps { (files : Option Files) (m : State) → ⟦<Shard as Machine>⟧.stands files self.old m → StandsBeside ⟦<PartReader as LeavesOver<Chains<131_072>>>⟧.lines (count_of (snap_taken result)) files self.new m }
         ensures loses { LosesWhereCrowded 131072 0 self.old.unstored.chains self.new.unstored.chains }
-        ensures beside { IsCacheUsed self.old self.new }
+        ensures beside { IsCacheUsed (snap_taken result) self.old self.new }
     {
-        what_is_left_stays_where_the_snapshots_see_the_same::<131_072>();
+        a_reader_stays();
         what_leaves_the_chains_of_both_leaves_their_writes();
-        let schema = self.folder.schema();
-        let _columns = schema.cols();
-        let _entry = schema.largest_entry();
-        let _statics = schema.largest_static();
         self.unstored.chains.known();
-        lookup(alloc, &mut self.cache, &mut self.unstored.chains, key)
+        take_known(alloc, &mut self.cache, &mut self.unstored.chains, key)
     }
 
-    // What the tables say of a partition, as the stream of its fragments: they are read, and the row cache is filled, whether they say anything or not.
+    // What tells what the tables say of a partition, once they are read: the row cache is filled, whether they say anything or not.
     fn read_tables<W: Store>(
         &mut self,
         alloc: Global,
         store: &mut W,
         key: &PartKey,
-    ) -> Result<ListFrags, StreamErr>
+    ) -> Result<Source, StreamErr>
         requires { (m : State) × ⟦<Shard as Machine>⟧.stands (W.files store.old) self.old m }
-        ensures says { (m : State) → ⟦<Shard as Machine>⟧.stands (W.files store.old) self.old m → IfOk result (IsTabled m key.now) }
+        ensures says { (m : State) → ⟦<Shard as Machine>⟧.stands (W.files store.old) self.old m → IfOk result (IsSourceIn self.new m key.now) }
         ensures whole { OnOk result (NoneLost (losses self.old.unstored.chains) (losses self.new.unstored.chains) → IsCachedWhole self.new key.now) }
         ensures stays { UnlessMemory result (AreKnownStill self.old self.new) }
-        ensures keeps { KeepsOver ⟦<Shard as Machine>⟧.stands (W.files store.old) self.old self.new }
+        ensures keeps { (m : State) → ⟦<Shard as Machine>⟧.stands (W.files store.old) self.old m → StandsBeside ⟦<PartReader as LeavesOver<Chains<131_072>>>⟧.lines (count_of (source_taken result)) (W.files store.old) self.new m }
         ensures loses { LosesWhereCrowded 131072 1 self.old.unstored.chains self.new.unstored.chains }
-        ensures beside { IsCacheUsed self.old self.new }
+        ensures beside { IsCacheUsed (source_taken result) self.old self.new }
         ensures damaged { IfErr result (IsDamageOf self.old.folder.schema key.now self.old.folder.infos) }
         ensures cause { Caused result (W.files store.old) (W.faults store.old) (W.faults store.new) }
         ensures store { HoldsSameFiles W.files W.building store.old store.new }
@@ -421,92 +454,176 @@ impl Shard {
         }
     }
 
-    // The stream of what was read of a partition, once that was put into the row cache. The only error is want of memory.
-    fn fill(
-        &mut self,
-        alloc: Global,
-        key: &PartKey,
-        read: &Mutation,
-    ) -> Result<ListFrags, StreamErr>
+    // What was read of a partition, put into the row cache, as a snapshot of that; as a stream, where there is no room for it. The only error is want of memory.
+    fn fill(&mut self, alloc: Global, key: &PartKey, read: &Mutation) -> Result<Source, StreamErr>
         requires stands { (files : Option Files) × (m : State) × ⟦<Shard as Machine>⟧.stands files self.old m }
         requires mutation { IsMutation read.now }
         requires fits { ChangeFits self.old.folder.schema read.now }
-        ensures stream { IfOk result (λ list. list ≡ stream_of (fragments read.now)) }
+        ensures says { (files : Option Files) (m : State) (said : List Change) → ⟦<Shard as Machine>⟧.stands files self.old m → IsSaid m key.now said → IsJoinOf read.now said → IfOk result (IsSourceIn self.new m key.now) }
         ensures refused { IfErr result (λ error. error ≡ StreamErr.NoMemory) }
         ensures whole { OnOk result (NoneLost (losses self.old.unstored.chains) (losses self.new.unstored.chains) → IsCachedWhole self.new key.now) }
         ensures stays { OnOk result (AreKnownStill self.old self.new) }
-        ensures keeps { (files : Option Files) (m : State) (said : List Change) → ⟦<Shard as Machine>⟧.stands files self.old m → IsSaid m key.now said → IsJoinOf read.now said → ⟦<Shard as Machine>⟧.stands files self.new m }
+        ensures keeps { (files : Option Files) (m : State) (said : List Change) → ⟦<Shard as Machine>⟧.stands files self.old m → IsSaid m key.now said → IsJoinOf read.now said → StandsBeside ⟦<PartReader as LeavesOver<Chains<131_072>>>⟧.lines (count_of (source_taken result)) files self.new m }
         ensures loses { LosesWhereCrowded 131072 1 self.old.unstored.chains self.new.unstored.chains }
-        ensures beside { IsCacheUsed self.old self.new }
+        ensures beside { IsCacheUsed (source_taken result) self.old self.new }
     {
-        what_is_left_stays_where_the_snapshots_see_the_same::<131_072>();
+        a_reader_stays();
         what_leaves_the_chains_of_both_leaves_their_writes();
-        let schema = self.folder.schema();
-        let _columns = schema.cols();
-        let _entry = schema.largest_entry();
-        let _statics = schema.largest_static();
         self.unstored.chains.known();
-        match populate(alloc, &mut self.cache, &mut self.unstored.chains, key, read) {
-            Ok(()) => stream_read(alloc, read),
+        match take_populated(alloc, &mut self.cache, &mut self.unstored.chains, key, read) {
+            Ok(Some(snap)) => Ok(Source::Cached(snap)),
+            Ok(None) => stream_read(alloc, read),
             Err(_) => Err(StreamErr::NoMemory),
         }
     }
 
-    // Opens a reader of an id that is not open, over the stream of what the tables say.
+    // Opens a reader of an id that is not open, for which there is a place, over what tells what the tables say.
     fn open_over(
         &mut self,
         alloc: Global,
         id: u32,
-        key: &PartKey,
-        slice: &Slice,
-        tables: ListFrags,
+        opening: Opening,
+        source: Source,
     ) -> Result<Reply, AllocError>
-        requires stands { (files : Option Files) × (m : State) × ⟦<Shard as Machine>⟧.stands files self.old m × IsTabled m key.now tables }
+        requires stands { (files : Option Files) × (m : State) × StandsBeside ⟦<PartReader as LeavesOver<Chains<131_072>>>⟧.lines (count_of (snap_in source)) files self.old m × IsSourceIn self.old m opening.key source }
+        requires tables { opening.tables ≡ self.old.folder.infos }
+        requires place { length self.old.readers.items < vec_capacity self.old.readers }
         requires unused { position (λ reader. reader.0 == id) self.old.readers.items ≡ None }
         ensures fine { IfOk result (λ reply. reply ≡ Reply.Fine) }
-        ensures pins { IfOk result (λ _. IsOnePinned id key.now self.old.readers.items self.old.unstored self.new.readers.items self.new.unstored) }
-        ensures opened { (files : Option Files) (m : State) → ⟦<Shard as Machine>⟧.stands files self.old m → (told : IsTabled m key.now tables) →
-            IfOk result (λ _. ⟦<Shard as Machine>⟧.stands files self.new (record m { readers = m.readers ++ (id, reader_with m key.now slice.now told.said) ∷ [] })) }
+        ensures pins { IfOk result (λ _. IsReaderPinned id opening.key source self.old.readers.items self.old.unstored self.new.readers.items self.new.unstored) }
+        ensures opened { (files : Option Files) (m : State) → StandsBeside ⟦<PartReader as LeavesOver<Chains<131_072>>>⟧.lines (count_of (snap_in source)) files self.old m → IsSourceIn self.old m opening.key source →
+            (said : List Change) × IsSaid m opening.key said × IfOk result (λ _. ⟦<Shard as Machine>⟧.stands files self.new (record m { readers = m.readers ++ (id, reader_with m opening.key opening.slice said) ∷ [] })) }
         ensures stays { IfOk result (λ _. (q : List ℕ) → IsKnownStill q self.old self.new) }
         ensures recency { IfOk result (λ _. (self.new.cache.entries ≡ self.old.cache.entries) × (self.new.unstored.chains.recency ≡ self.old.unstored.chains.recency)) }
         ensures loses { OnOk result (LosesWhereCrowded 131072 0 self.old.unstored.chains self.new.unstored.chains) }
-        ensures err { OnErr result (StandsForTheSame ⟦<Shard as Machine>⟧.stands self.old self.new) }
+        ensures err { (files : Option Files) (m : State) → StandsBeside ⟦<PartReader as LeavesOver<Chains<131_072>>>⟧.lines (count_of (snap_in source)) files self.old m → IsSourceIn self.old m opening.key source → OnErr result (⟦<Shard as Machine>⟧.stands files self.new m) }
         ensures counts { CountsStay self.old self.new }
     {
-        what_is_left_stays_where_the_snapshots_see_the_same::<131_072>();
+        a_reader_stays();
         both_say_what_was_written();
-        self.readers.reserve(1)?;
-        let opened = open_in(alloc, &mut self.unstored, key, slice, tables)?;
+        what_leaves_the_chains_of_both_leaves_their_writes();
+        let opened = open_in(alloc, &mut self.unstored, opening, source)?;
         match self.readers.push((id, opened)) {
             Ok(()) => Ok(Reply::Fine),
             Err(_) => unreachable!(),
         }
     }
 
-    // Gives a reader's next lines, whose rows become the most recent ones of the row cache.
-    fn read(&mut self, alloc: Global, id: u32, count: u32) -> Result<Reply, AllocError>
-        requires { (files : Option Files) × (m : State) × ⟦<Shard as Machine>⟧.stands files self.old m }
-        ensures step { (files : Option Files) → IfOk result (λ reply. Takes ⟦<Shard as Machine>⟧.stands files self.old (Command.Read id count) reply files self.new) }
+    // Gives a reader's next lines, whose rows become the most recent ones of the row cache. Where the row cache no longer has what is needed the reader goes on past it, over what is read of the tables of its opening.
+    fn read<W: Store>(
+        &mut self,
+        alloc: Global,
+        store: &mut W,
+        id: u32,
+        count: u32,
+    ) -> Result<Reply, AllocError>
+        requires { (m : State) × ⟦<Shard as Machine>⟧.stands (W.files store.old) self.old m }
+        ensures step { IfOk result (λ reply. Takes ⟦<Shard as Machine>⟧.stands (W.files store.old) self.old (Command.Read id count) reply (W.files store.new) self.new) }
+        ensures err { OnErr result (Stops ⟦<Shard as Machine>⟧.stands (W.files store.old) self.old (Command.Read id count) (W.files store.new) self.new) }
+        ensures faults { FaultsAreCounted result (W.faults store.old) (W.faults store.new) }
+        ensures asks { (m : State) → ⟦<Shard as Machine>⟧.stands (W.files store.old) self.old m → W.asks store.new ≤ W.asks store.old + most_asks m (Command.Read id count) }
+        ensures known { AsksNothingWhereKnown (Command.Read id count) self.old (W.asks store.old) (W.asks store.new) }
         ensures same { self.new.unstored.chains.counts ≡ self.old.unstored.chains.counts }
-        ensures left { IsCacheLeft self.old self.new }
+        ensures stays { StaysKnown (Command.Read id count) self.old self.new }
         ensures touches { IfOk result (λ reply. IsTouchedAsGiven (Command.Read id count) reply self.old self.new) }
-        ensures faultless { (n : ℕ) → IfOk result (λ reply. OnFaulty reply (Rose n n)) }
-        ensures err { OnErr result (StandsForTheSame ⟦<Shard as Machine>⟧.stands self.old self.new) }
         ensures counts { CountsStay self.old self.new }
     {
-        what_is_left_stays_where_the_snapshots_see_the_same::<131_072>();
-        what_leaves_the_chains_of_both_leaves_their_writes();
+        self.unstored.chains.known();
         match place_of(self.readers.as_slice(), id) {
             None => Ok(Reply::Refused(Refusal::NoReader)),
-            Some(at) => {
-                let reader = &mut self.readers[at];
-                let (lines, more) = reader.1.read(alloc, &mut self.unstored.chains, count)?;
-                let key = reader.1.key();
-                let chains = &mut self.unstored.chains;
-                keep_recent(&self.cache, chains, key, lines.as_slice());
-                Ok(Reply::Given { lines, more })
-            }
+            Some(at) => match self.page(alloc, at, count) {
+                Ok((lines, more)) => Ok(self.give(at, lines, more)),
+                Err(PageErr::Missing) => self.read_past(alloc, store, at, count),
+                Err(PageErr::NoMemory) => Err(AllocError),
+            },
         }
+    }
+
+    // Gives a reader's next lines, where what is needed is in memory; else nothing changes.
+    fn page(&mut self, alloc: Global, at: usize, count: u32) -> Result<(Lines, bool), PageErr>
+        requires { (id : ℕ) × (files : Option Files) × (m : State) × ⟦<Shard as Machine>⟧.stands files self.old m × (position (λ reader. reader.0 == id) self.old.readers.items ≡ Some at) }
+        ensures gives { (id : ℕ) (files : Option Files) (m : State) → ⟦<Shard as Machine>⟧.stands files self.old m → position (λ reader. reader.0 == id) self.old.readers.items ≡ Some at → IfOk result (λ gave. IsPaged ⟦<Shard as Machine>⟧.stands files id count m gave self.new) }
+        ensures err { OnErr result (StandsForTheSame ⟦<Shard as Machine>⟧.stands self.old self.new) }
+        ensures missing { (o : ℕ × PartitionReader) → get_or self.old.readers.items at o ≡ o → IfErr result (λ e. e ≡ PageErr.Missing → (IsSome (cached_of o.1)) × (IsKnownWhole self.old.unstored.chains (cached_of o.1) → ⊥)) }
+        ensures beside { IsPagedBeside at self.old self.new }
+    {
+        a_reader_stays();
+        let reader = &mut self.readers[at].1;
+        reader
+            .reader
+            .read(alloc, &mut self.unstored.chains, None, count)
+    }
+
+    // The reply of lines that a reader gave, whose rows become the most recent ones of the row cache.
+    fn give(&mut self, at: usize, lines: Lines, more: bool) -> Reply
+        requires { (id : ℕ) × (files : Option Files) × (m : State) × ⟦<Shard as Machine>⟧.stands files self.old m × (position (λ reader. reader.0 == id) self.old.readers.items ≡ Some at) }
+        ensures reply { result ≡ Reply.Given lines more }
+        ensures keeps { StandsForTheSame ⟦<Shard as Machine>⟧.stands self.old self.new }
+        ensures touches { (o : ℕ × PartitionReader) → get_or self.old.readers.items at o ≡ o → AreTouched (IsEntryOfGiven (entry_number self.old.cache.entries o.1.key) lines) self.old.unstored.chains self.new.unstored.chains }
+        ensures beside { IsBesideChains self.old self.new }
+        ensures left { LeavesCache self.old.unstored.chains self.new.unstored.chains }
+    {
+        a_reader_stays();
+        what_leaves_the_chains_of_both_leaves_their_writes();
+        let key = &self.readers[at].1.key;
+        let chains = &mut self.unstored.chains;
+        keep_recent(&self.cache, chains, key, lines.as_slice());
+        Reply::Given { lines, more }
+    }
+
+    // Reads a reader's partition from the tables of its opening, and gives its next lines past the row cache.
+    fn read_past<W: Store>(
+        &mut self,
+        alloc: Global,
+        store: &mut W,
+        at: usize,
+        count: u32,
+    ) -> Result<Reply, AllocError>
+        requires { (id : ℕ) × (m : State) × ⟦<Shard as Machine>⟧.stands (W.files store.old) self.old m × (position (λ reader. reader.0 == id) self.old.readers.items ≡ Some at) }
+        ensures step { (id : ℕ) → position (λ reader. reader.0 == id) self.old.readers.items ≡ Some at → IfOk result (λ reply. Takes ⟦<Shard as Machine>⟧.stands (W.files store.old) self.old (Command.Read id count) reply (W.files store.new) self.new) }
+        ensures err { (id : ℕ) → position (λ reader. reader.0 == id) self.old.readers.items ≡ Some at → OnErr result (Stops ⟦<Shard as Machine>⟧.stands (W.files store.old) self.old (Command.Read id count) (W.files store.new) self.new) }
+        ensures faults { FaultsAreCounted result (W.faults store.old) (W.faults store.new) }
+        ensures asks { (id : ℕ) (m : State) → position (λ reader. reader.0 == id) self.old.readers.items ≡ Some at → ⟦<Shard as Machine>⟧.stands (W.files store.old) self.old m → W.asks store.new ≤ W.asks store.old + most_asks m (Command.Read id count) }
+        ensures same { self.new.unstored.chains.counts ≡ self.old.unstored.chains.counts }
+        ensures stays { (id : ℕ) → StaysKnown (Command.Read id count) self.old self.new }
+        ensures touches { (id : ℕ) → position (λ reader. reader.0 == id) self.old.readers.items ≡ Some at → IfOk result (λ reply. IsTouchedAsGiven (Command.Read id count) reply self.old self.new) }
+        ensures counts { CountsStay self.old self.new }
+    {
+        a_join_says_what_the_writes_say();
+        what_says_the_same_fits();
+        self.unstored.chains.known();
+        let reader = &self.readers[at].1;
+        match self
+            .folder
+            .read_first(alloc, store, &reader.key, &reader.tables)
+        {
+            Ok(read) => {
+                self.go_past(alloc, at, read)?;
+                match self.page(alloc, at, count) {
+                    Ok((lines, more)) => Ok(self.give(at, lines, more)),
+                    Err(_) => Err(AllocError),
+                }
+            }
+            Err(error) => not_read(error),
+        }
+    }
+
+    // A reader goes on past the row cache, over what was read of the tables of its opening; its snapshot of the row cache is taken back. The only error is want of memory: then it is as it was.
+    fn go_past(&mut self, alloc: Global, at: usize, read: Mutation) -> Result<(), AllocError>
+        requires { (id : ℕ) × (files : Option Files) × (m : State) × ⟦<Shard as Machine>⟧.stands files self.old m × (position (λ reader. reader.0 == id) self.old.readers.items ≡ Some at) }
+        ensures past { (id : ℕ) (files : Option Files) (m : State) (o : ℕ × PartitionReader) (said : List Change) → ⟦<Shard as Machine>⟧.stands files self.old m → position (λ reader. reader.0 == id) self.old.readers.items ≡ Some at → get_or self.old.readers.items at o ≡ o → IsSaidByFirst m o.1.tables o.1.key said → IsJoinOf read said → IsMutation read → ChangeFits self.old.folder.schema read →
+            OnOk result (IsGoneOn ⟦<Shard as Machine>⟧.stands files id m self.new) }
+        ensures err { OnErr result (StandsForTheSame ⟦<Shard as Machine>⟧.stands self.old self.new × IsPagedBeside at self.old self.new) }
+        ensures gone { (o : ℕ × PartitionReader) → get_or self.old.readers.items at o ≡ o → OnOk result (IsGonePastAt at o self.old self.new) }
+    {
+        a_reader_stays();
+        what_is_told_anew();
+        what_leaves_the_chains_of_both_leaves_their_writes();
+        let reader = &mut self.readers[at].1;
+        let chains = &mut self.unstored.chains;
+        let snap = reader.reader.go_past(alloc, chains, read, &reader.key)?;
+        give_back(chains, snap);
+        Ok(())
     }
 
     // Closes a reader: its snapshots are taken back.
@@ -514,17 +631,18 @@ impl Shard {
         requires { (files : Option Files) × (m : State) × ⟦<Shard as Machine>⟧.stands files self.old m }
         ensures step { (files : Option Files) → Takes ⟦<Shard as Machine>⟧.stands files self.old (Command.Close id) result files self.new }
         ensures same { self.new.unstored.chains.counts ≡ self.old.unstored.chains.counts }
-        ensures left { IsCacheLeft self.old self.new }
+        ensures stays { StaysKnown (Command.Close id) self.old self.new }
         ensures faultless { (n : ℕ) → OnFaulty result (Rose n n) }
         ensures counts { CountsStay self.old self.new }
     {
-        what_calls_leave_of_the_cache();
-        what_is_left_stays_where_the_snapshots_see_the_same::<131_072>();
+        a_reader_stays();
+        what_leaves_the_chains_of_both_leaves_their_writes();
+        self.unstored.chains.known();
         match place_of(self.readers.as_slice(), id) {
             None => Reply::Refused(Refusal::NoReader),
             Some(at) => {
                 let (_id, opened) = self.readers.remove(at);
-                self.unstored.release_both(opened.into_snaps());
+                release_held(&mut self.unstored, held_of(opened));
                 Reply::Fine
             }
         }
@@ -541,7 +659,7 @@ impl Shard {
         ensures same { OnOk result (self.new.unstored.chains.counts ≡ self.old.unstored.chains.counts) }
         ensures counts { CountsStay self.old self.new }
     {
-        what_is_left_stays_where_the_snapshots_see_the_same::<131_072>();
+        a_reader_stays();
         self.unstored.chains.known();
         if self.unstored.is_empty() {
             return Ok(Reply::Refused(Refusal::NothingToFlush));
@@ -589,66 +707,155 @@ impl Shard {
     }
 }
 
-// A reader of a slice of a partition, over the stream of what the tables say of it and snapshots of what is written.
+// A reader over what tells what the tables say of its partition, and snapshots of what is written of it. The only error is want of memory: then a snapshot of the row cache that was handed in is taken back.
 fn open_in(
     alloc: Global,
     unstored: &mut Unstored<131_072>,
-    key: &PartKey,
-    slice: &Slice,
-    tables: ListFrags,
-) -> Result<Opened, AllocError>
-    requires kept { (schema : SchemaValue) × (writes : List Written) × (later : List Written) × HaveWrites schema unstored.old writes later }
-    requires whole { (tabled : Change) × IsMutation tabled × (tables ≡ stream_of (fragments tabled)) }
-    ensures gives { (schema : SchemaValue) (writes later : List Written) (tabled : Change) (said : List Change) → HaveWrites schema unstored.old writes later → IsMutation tabled → tables ≡ stream_of (fragments tabled) → IsJoinOf tabled said →
-        AreChangesOf schema (changes_to key.now writes) → AreChangesOf schema (changes_to key.now later) →
-        IfOk result (λ o. ⟦<Opened as Leaves<Chains<131_072>>>⟧.lines o unstored.new.chains (answer (said ++ (changes_to key.now writes ++ changes_to key.now later)) slice.now)) }
-    ensures there { IfOk result (λ o. AreThere unstored.new.chains (snaps_of o)) }
-    ensures two { IfOk result (λ o. AreOfTwo (snaps_of o)) }
-    ensures pins { IfOk result (PinsPartition key.now unstored.old unstored.new) }
-    ensures key { IfOk result (λ o. o.key ≡ key.now) }
+    opening: Opening,
+    source: Source,
+) -> Result<PartitionReader, AllocError>
+    requires kept { (schema : SchemaValue) × (writes : List Written) × (later : List Written) × HaveWrites schema unstored.old writes later × AreChangesOf schema (changes_to opening.key writes) × AreChangesOf schema (changes_to opening.key later) }
+    requires there { IsCachedThere unstored.old.chains (snap_in source) }
+    requires read { IsReadWhole source }
+    ensures gives { (schema : SchemaValue) (writes later : List Written) (below said : List Change) → HaveWrites schema unstored.old writes later → AreChangesOf schema (changes_to opening.key writes) → AreChangesOf schema (changes_to opening.key later) → AreChangesOf schema below → TellsBelow unstored.new.chains source below said →
+        IfOk result (IsOpenedOver ⟦<PartReader as LeavesOver<Chains<131_072>>>⟧.lines schema unstored.new.chains opening.slice below said (changes_to opening.key writes) (changes_to opening.key later)) }
+    ensures held { IfOk result (λ o. AreHeld unstored.new.chains (held_by o.reader)) }
+    ensures snap { IfOk result (λ o. cached_of o ≡ snap_in source) }
+    ensures pins { IfOk result (PinsPartition opening.key unstored.old unstored.new) }
+    ensures key { IfOk result (λ o. o.key ≡ opening.key) }
+    ensures tables { IfOk result (λ o. o.tables ≡ opening.tables) }
     ensures fresh { IfOk result (λ o. (s : Snapshot) → HasPin unstored.old.chains s.chain s.pin → IsNoneOf (snaps_of o) s) }
-    ensures kept { (schema : SchemaValue) → KeepsUnstored schema unstored.old unstored.new }
+    ensures kept { IfOk result (λ _. (schema : SchemaValue) → KeepsUnstored schema unstored.old unstored.new) }
+    ensures err { OnErr result ((schema : SchemaValue) → IsSourceLetGo (snap_in source) schema unstored.old unstored.new) }
 {
     what_a_call_leaves_of_the_room();
     what_calls_leave_of_the_cache();
     what_a_snapshot_of_a_key_sees();
     a_snapshot_sees_what_it_saw();
-    let snaps = unstored.snapshot(key)?;
-    match Opened::open(alloc, &mut unstored.chains, snaps, tables, key, slice) {
-        Ok(opened) => Ok(opened),
-        Err((snaps, error)) => {
-            unstored.release_both(snaps);
+    match unstored.snapshot(&opening.key) {
+        Ok(snaps) => open_with(alloc, unstored, opening, source, snaps),
+        Err(error) => {
+            let_go(unstored, source);
             Err(error)
         }
     }
 }
 
-// The stream of the fragments of what was read of a partition. The only error is want of memory.
-fn stream_read(alloc: Global, read: &Mutation) -> Result<ListFrags, StreamErr>
-    ensures stream { IfOk result (λ list. list ≡ stream_of (fragments read.now)) }
+// A reader over what tells what the tables say of its partition, and these snapshots of what is written of it. The only error is want of memory: then all snapshots that were handed in are taken back.
+fn open_with(
+    alloc: Global,
+    unstored: &mut Unstored<131_072>,
+    opening: Opening,
+    source: Source,
+    snaps: Snaps,
+) -> Result<PartitionReader, AllocError>
+    requires sees { (schema : SchemaValue) × (writes : List Change) × (later : List Change) × AreChangesOf schema writes × AreChangesOf schema later × SeesAllOf writes unstored.old.chains snaps.sealed × SeesAllOf later unstored.old.chains snaps.active }
+    requires two { AreOfTwo snaps }
+    requires there { IsCachedThere unstored.old.chains (snap_in source) }
+    requires read { IsReadWhole source }
+    ensures gives { (schema : SchemaValue) (writes later below said : List Change) → AreChangesOf schema writes → AreChangesOf schema later → AreChangesOf schema below → SeesAllOf writes unstored.old.chains snaps.sealed → SeesAllOf later unstored.old.chains snaps.active → TellsBelow unstored.new.chains source below said →
+        IfOk result (IsOpenedOver ⟦<PartReader as LeavesOver<Chains<131_072>>>⟧.lines schema unstored.new.chains opening.slice below said writes later) }
+    ensures held { IfOk result (λ o. held_by o.reader ≡ record { cached = snap_in source; written = snaps }) }
+    ensures key { IfOk result (λ o. o.key ≡ opening.key) }
+    ensures tables { IfOk result (λ o. o.tables ≡ opening.tables) }
+    ensures same { IfOk result (λ _. unstored.new ≡ unstored.old) }
+    ensures back { OnErr result (IsReadSource source × AreBothReleased snaps unstored.old unstored.new) }
+{
+    answer_of_joined_writes();
+    writes_have_a_join();
+    let Opening { key, slice, tables } = opening;
+    match source {
+        Source::Cached(snap) => {
+            let held = HeldSnaps {
+                cached: Some(snap),
+                written: snaps,
+            };
+            let reader = PartReader::Cached(OpenReader::open(held, slice));
+            Ok(PartitionReader {
+                key,
+                reader,
+                tables,
+            })
+        }
+        Source::Read(list) => {
+            match OpenedBehind::open(alloc, &mut unstored.chains, None, snaps, list, &key, &slice) {
+                Ok(past) => Ok(PartitionReader {
+                    key,
+                    reader: PartReader::Past(past),
+                    tables,
+                }),
+                Err((snaps, error)) => {
+                    unstored.release_both(snaps);
+                    Err(error)
+                }
+            }
+        }
+    }
+}
+
+// The snapshot of the row cache that was to tell what the tables say is taken back, if it is one.
+fn let_go(unstored: &mut Unstored<131_072>, source: Source)
+    requires { IsCachedThere unstored.old.chains (snap_in source) }
+    ensures { IsGivenBack (snap_in source) unstored.old.chains unstored.new.chains × (unstored.new ≡ in_chains unstored.new.chains unstored.old) }
+{
+    match source {
+        Source::Cached(snap) => release_cached(&mut unstored.chains, snap),
+        Source::Read(_list) => {}
+    }
+}
+
+// The snapshots of a reader that is done with.
+fn held_of(opened: PartitionReader) -> HeldSnaps
+    ensures { result ≡ held_by opened.reader }
+{
+    let PartitionReader {
+        key: _key,
+        reader,
+        tables: _tables,
+    } = opened;
+    reader.into_held()
+}
+
+// The snapshots of a reader are taken back.
+fn release_held(unstored: &mut Unstored<131_072>, held: HeldSnaps)
+    requires { AreHeld unstored.old.chains held }
+    ensures { AreHeldReleased held unstored.old unstored.new }
+{
+    what_a_call_leaves_of_the_room();
+    what_calls_leave_of_the_cache();
+    what_leaves_the_chains_of_both_leaves_their_writes();
+    let HeldSnaps { cached, written } = held;
+    give_back(&mut unstored.chains, cached);
+    unstored.release_both(written);
+}
+
+// What was read of a partition, as the stream of its fragments. The only error is want of memory.
+fn stream_read(alloc: Global, read: &Mutation) -> Result<Source, StreamErr>
+    ensures stream { IfOk result (λ source. source ≡ Source.Read (stream_of (fragments read.now))) }
     ensures refused { IfErr result (λ error. error ≡ StreamErr.NoMemory) }
 {
     match read.fragments(alloc) {
-        Ok(list) => Ok(ListFrags::new(list)),
+        Ok(list) => Ok(Source::Read(ListFrags::new(list))),
         Err(_) => Err(StreamErr::NoMemory),
     }
 }
 
 // Takes the snapshots of all readers back.
-fn close_all(unstored: Unstored<131_072>, readers: Vec<(u32, Opened)>)
-    requires held { AllByRecursion (λ o. AreThere unstored.chains (snaps_of o.1) × AreOfTwo (snaps_of o.1)) readers.items }
+fn close_all(unstored: Unstored<131_072>, readers: Vec<(u32, PartitionReader)>)
+    requires held { AllByRecursion (λ o. AreHeld unstored.chains (held_by o.1.reader)) readers.items }
     requires two { AllPairs AreTwo (map holding readers.items) }
 {
+    what_leaves_the_chains_of_both_leaves_their_writes();
     let mut unstored = unstored;
     let mut readers = readers;
     while let Some((_id, opened)) = readers.pop() {
-        unstored.release_both(opened.into_snaps());
+        release_held(&mut unstored, held_of(opened));
     }
     readers.destroy_empty();
 }
 
 // The place of the reader with an id.
-fn place_of(readers: &[(u32, Opened)], id: u32) -> Option<usize>
+fn place_of(readers: &[(u32, PartitionReader)], id: u32) -> Option<usize>
     ensures { result ≡ position (λ reader. reader.0 == id) readers.now }
 {
     readers.iter().position(|reader| reader.0 == id)

@@ -8,7 +8,7 @@ use Rattle.rc_shard.proofs.forgetting.forget_one.Goals as goal
 pub returns-clause-forgets : goal.returns-clause-forgets
 returns-clause-forgets c =
     let ones = c.each_chain_of_the_cache_has_one_version.ensures in
-    let laws : DetachLaws = record { says = c.the_cache_says_what_lies_below.ensures.detached; one = ones.detached; settled = ones.settled; used = c.chains_of_the_cache_stay_in_use.ensures.detached; bytes = c.what_calls_leave_of_memtables.ensures.detached; gone = c.each_key_is_found.ensures.gone } in
+    let laws : DetachLaws = record { says = c.the_cache_says_what_lies_below.ensures.detached; one = ones.detached; settled = ones.settled; used = c.chains_of_the_cache_stay_in_use.ensures.detached; bytes = c.what_calls_leave_of_memtables.ensures.detached; snapshots = c.calls_leave_the_snapshots_of_the_cache.ensures.detached; gone = c.each_key_is_found.ensures.gone } in
     let known = c.known.ensures in
     number-or-none _ (entry_number c.args.cache.now.entries c.args.part.now.key)
     (λ none. forgets-absent c.args.part.now c.args.cache.now.entries c.forget.new.self.entries c.args.unstored.now.chains c.forget.new.chains none (c.forget.ensures.none none))
@@ -17,7 +17,7 @@ returns-clause-forgets c =
 pub returns-clause-keeps : goal.returns-clause-keeps
 returns-clause-keeps c =
     let ones = c.each_chain_of_the_cache_has_one_version.ensures in
-    let laws : DetachLaws = record { says = c.the_cache_says_what_lies_below.ensures.detached; one = ones.detached; settled = ones.settled; used = c.chains_of_the_cache_stay_in_use.ensures.detached; bytes = c.what_calls_leave_of_memtables.ensures.detached; gone = c.each_key_is_found.ensures.gone } in
+    let laws : DetachLaws = record { says = c.the_cache_says_what_lies_below.ensures.detached; one = ones.detached; settled = ones.settled; used = c.chains_of_the_cache_stay_in_use.ensures.detached; bytes = c.what_calls_leave_of_memtables.ensures.detached; snapshots = c.calls_leave_the_snapshots_of_the_cache.ensures.detached; gone = c.each_key_is_found.ensures.gone } in
     let known = c.known.ensures in
     number-or-none _ (entry_number c.args.cache.now.entries c.args.part.now.key)
     (λ none. written-absent c.args.unstored.now c.forget.new.chains (c.forget.ensures.none none).1)

@@ -16,12 +16,12 @@ returns c =
     let ones = c.each_chain_of_the_cache_has_one_version.ensures in
     let uses = c.chains_of_the_cache_stay_in_use.ensures in
     let takes = c.what_calls_leave_of_memtables.ensures in
-    let evicts = c.evictions_leave_the_use_of_a_chain.ensures in
+    let snaps = c.calls_leave_the_snapshots_of_the_cache.ensures in
     let rooms = c.what_a_call_leaves_of_the_room.ensures in
-    let same : SameLaws = record { says = says.same; cached = c.each_change_leaves_the_caches_chains.ensures.moved; entries = entries; one = ones.moved; used = uses.moved } in
-    let beside : BesideLaws = record { says = says.beside; cached = calls.entries; entries = entries; one = ones.beside } in
-    let room : RoomLaws = record { says = says.evicted; cached = c.room_leaves_the_entries.ensures.evicted; entries = entries; one = ones.evicted; used = uses.evicted; kind = evicts.kind; pins = evicts.pins } in
-    let read : ReadLaws = record { says = says.before; entries = entries; one = ones.before; used = uses.before } in
+    let same : SameLaws = record { says = says.same; cached = c.each_change_leaves_the_caches_chains.ensures.moved; entries = entries; one = ones.moved; used = uses.moved; snapshots = snaps.moved } in
+    let beside : BesideLaws = record { says = says.beside; cached = calls.entries; entries = entries; one = ones.beside; snapshots = snaps.beside } in
+    let room : RoomLaws = record { says = says.evicted; cached = c.room_leaves_the_entries.ensures.evicted; entries = entries; one = ones.evicted; used = uses.evicted; snapshots = snaps.evicted } in
+    let read : ReadLaws = record { says = says.before; entries = entries; one = ones.before; used = uses.before; snapshots = snaps.before } in
     record {
       moved = λ old new h. record { left = leaves-untouched same old new h.untouched; bytes = takes.moved old new h.untouched };
       slots = λ old new h. (
@@ -49,7 +49,7 @@ returns c =
               entries = λ es x. entries es b.mid new.chains (calls.entries b.mid new.chains b.same) (first.entries es x);
               one = λ x. ones.beside b.mid new.chains b.same (first.one x);
               used = uses.put 131072 schema w old new writes later rule h p;
-              untaken = λ x id k there kind. first.untaken x id k (b.same.none id k kind there) kind;
+              snapshots = snaps.both old.chains b.mid new.chains first.snapshots (snaps.beside b.mid new.chains b.same);
               lost = (let before = first.lost in omega (arith, before, since));
               still = λ none id k there kind. (
                   let u = lost-neither (losses old.chains) (losses b.mid) (losses new.chains) first.lost (omega (arith, since)) none in

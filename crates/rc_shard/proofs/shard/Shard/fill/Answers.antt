@@ -1,64 +1,68 @@
 -- What was read lies below its chain, and filling leaves the rest.
-use Rattle.std.proofs.Common.{[], ◌∷◌, refl, subst, arith}
-use Rattle.std.specs.Prelude.{IsTrue}
-use Rattle.rc_schema.specs.SchemaValue.{SchemaValue, is_schema}
-use Rattle.rc_lookup.specs.Writes.{AreSmall}
-use Rattle.rc_shard.proofs.Filled.{cached-filled, one-fits, same-source}
+use Rattle.std.proofs.Common.{◌≡◌, ℕ, Some, None, refl, sym, subst, arith}
+use Rattle.std.specs.Prelude.{IfNone, IfSome, MatchOption}
+use Rattle.rc_stream.specs.Stream.{stream_of}
+use Rattle.rc_mutation.specs.Fragments.{fragments}
+use Rattle.rc_cached.specs.Stands.{HasCacheSnapshot}
+use Rattle.rc_lookup.specs.Found.{entry_number}
+use Rattle.rc_lookup.specs.Held.{IsHeldOf}
 use Rattle.rc_lookup.specs.Memtables.{in_chains}
+use Rattle.rc_lookup.specs.Rest.{LeavesBut, LeavesRest}
 use Rattle.rc_shard.specs.declared.shard.Shard.{Shard}
+use Rattle.rc_shard.proofs.Standing.{taken-as}
+use Rattle.rc_shard.proofs.Filled.{filled-for, none-found, none-taken, other-chain}
 use Rattle.rc_shard.proofs.Known.{filled-known}
-use Rattle.rc_shard.proofs.Looking.{on-ok, over-of, used-for}
+use Rattle.rc_shard.proofs.Looking.{entry-snapshot, over-of, rest-plain, rest-of}
 use Rattle.rc_shard.proofs.shard.Shard.fill.Goals as goal
 
-pub populate-requires : goal.populate-requires
-populate-requires c =
+pub take_populated-requires : goal.take_populated-requires
+take_populated-requires c =
     let s = c.requires.stands.2 in
     let schema = c.args.self.now.folder.schema in
-    let limits = subst (λ (t : SchemaValue). IsTrue (is_schema t)) c.schema-schema.ensures c.cols-columns.ensures.limits in
-    let small = subst (λ (t : SchemaValue). AreSmall 131072 t) c.schema-schema.ensures (record { entry = (let a = c.largest_entry-entry.ensures.value in let b = c.largest_entry-entry.ensures.small in omega (arith, a, b)); statics = (let a = c.largest_static-statics.ensures.value in let b = c.largest_static-statics.ensures.small in omega (arith, a, b)) }) in
-    (omega arith, (s.cached.are, (omega arith, (schema, (λ id phase. s.cached.below id), over-of schema c.args.self.now.cache.entries c.args.self.now.unstored.chains c.requires.stands.1 limits small s.cached, c.requires.fits))))
+    (omega arith, (s.cached.are, (omega arith, (schema, (λ id phase. s.cached.below id), over-of schema c.args.self.now.cache.entries c.args.self.now.unstored.chains c.requires.stands.1 s.cached, c.requires.fits))))
 
-pub returns-in-Ok-clause-whole : goal.returns-in-Ok-clause-whole
-returns-in-Ok-clause-whole c = on-ok c.stream_read.result _ (λ none. c.in-Ok.ensures.known none)
-
-pub returns-in-Ok-clause-keeps : goal.returns-in-Ok-clause-keeps
-returns-in-Ok-clause-keeps c = λ files m said s of join.
+pub returns-in-Ok-Some-clause-says : goal.returns-in-Ok-Some-clause-says
+returns-in-Ok-Some-clause-says c = λ files m said s of join.
     let k = c.args.self.now in
-    let schema = k.folder.schema in
-    let read = c.args.read.now in
-    let limits = subst (λ (t : SchemaValue). IsTrue (is_schema t)) c.schema-schema.ensures c.cols-columns.ensures.limits in
-    let small = subst (λ (t : SchemaValue). AreSmall 131072 t) c.schema-schema.ensures (record { entry = (let a = c.largest_entry-entry.ensures.value in let b = c.largest_entry-entry.ensures.small in omega (arith, a, b)); statics = (let a = c.largest_static-statics.ensures.value in let b = c.largest_static-statics.ensures.small in omega (arith, a, b)) }) in
-    let says = c.populate.ensures.says schema (λ id phase. s.cached.below id) (read ∷ []) (over-of schema k.cache.entries k.unstored.chains m limits small s.cached) (one-fits schema read c.requires.fits) (same-source (read ∷ [])) in
-    used-for _ c.what_is_left_stays_where_the_snapshots_see_the_same.ensures (λ schema u n writes later. c.what_leaves_the_chains_of_both_leaves_their_writes.ensures.beside 131072 schema u n writes later)
-    files k.folder k.unstored c.populate.new.chains k.cache.entries c.populate.new.cache.entries k.readers.items k.segments m c.populate.ensures.rest
-    (cached-filled schema c.args.key.now read k.cache.entries c.populate.new.cache.entries k.unstored.chains c.populate.new.chains m said c.requires.mutation of join c.populate.ensures.entries (λ q id found apart. c.populate.ensures.others q id found apart) s.cached c.requires.fits c.populate.ensures.rest says) s
+    let new : Shard = record k { cache = c.take_populated.new.cache; unstored = in_chains c.take_populated.new.chains k.unstored } in
+    entry-snapshot _ files k new m c.args.key.now c.in-Ok-Some.snap s refl (subst (λ o. IfSome o (IsHeldOf c.args.key.now c.take_populated.new.cache.entries k.unstored.chains c.take_populated.new.chains)) c.in-Ok-Some.field-0-is c.in-Ok-Some.ensures.taken)
+
+pub returns-in-Ok-Some-clause-stays : goal.returns-in-Ok-Some-clause-stays
+returns-in-Ok-Some-clause-stays c =
+    let k = c.args.self.now in
+    let new : Shard = record k { cache = c.take_populated.new.cache; unstored = in_chains c.take_populated.new.chains k.unstored } in
+    filled-known k new c.args.key.now c.requires.stands.2.cached.are c.known.ensures.told (λ none. c.in-Ok-Some.ensures.known none) (λ none q ne. c.in-Ok-Some.ensures.stays none q ne)
+
+pub returns-in-Ok-Some-clause-keeps : goal.returns-in-Ok-Some-clause-keeps
+returns-in-Ok-Some-clause-keeps c = λ files m said s of join.
+    let k = c.args.self.now in
+    let n = c.take_populated.new.chains in
+    let t = c.in-Ok-Some.ensures in
+    let own = subst (λ o. IfSome o (IsHeldOf c.args.key.now c.take_populated.new.cache.entries k.unstored.chains n)) c.in-Ok-Some.field-0-is t.taken in
+    let apart = subst (λ o. IfSome o (λ s. (pin : ℕ) → HasCacheSnapshot k.unstored.chains s.chain pin → ⊥)) c.in-Ok-Some.field-0-is t.apart in
+    let rest = subst (λ o. MatchOption o (LeavesRest k.unstored.chains n) (λ s. LeavesBut s k.unstored.chains n)) c.in-Ok-Some.field-0-is t.rest in
+    filled-for _ c.a_reader_stays.ensures (λ schema u n writes later. c.what_leaves_the_chains_of_both_leaves_their_writes.ensures.beside 131072 schema u n writes later)
+    files k n c.take_populated.new.cache.entries c.args.key.now c.args.read.now 1 m said c.requires.mutation c.requires.fits (rest-of (Some c.in-Ok-Some.snap) k.unstored.chains n rest) c.take_populated.ensures.entries
+    (λ q id found apart. c.take_populated.ensures.others q id found apart) (λ schema below writes over fit same. c.take_populated.ensures.says schema below writes over fit same) (other-chain _ k.unstored.chains c.in-Ok-Some.snap own.entry apart) s of join
+
+pub returns-in-Ok-None-clause-keeps : goal.returns-in-Ok-None-clause-keeps
+returns-in-Ok-None-clause-keeps c = λ files m said s of join.
+    let k = c.args.self.now in
+    let n = c.take_populated.new.chains in
+    let t = c.in-Ok-None.ensures in
+    let b = c.take_populated.new.cache.entries in
+    let rest = subst (λ o. MatchOption o (LeavesRest k.unstored.chains n) (λ s. LeavesBut s k.unstored.chains n)) c.in-Ok-None.field-0-is t.rest in
+    let absent = subst (λ o. IfNone o (entry_number b c.args.key.now ≡ None)) c.in-Ok-None.field-0-is t.absent in
+    let kept = filled-for _ c.a_reader_stays.ensures (λ schema u n writes later. c.what_leaves_the_chains_of_both_leaves_their_writes.ensures.beside 131072 schema u n writes later)
+    files k n b c.args.key.now c.args.read.now 0 m said c.requires.mutation c.requires.fits (rest-plain k.unstored.chains n rest) c.take_populated.ensures.entries
+    (λ q id found apart. c.take_populated.ensures.others q id found apart) (λ schema below writes over fit same. c.take_populated.ensures.says schema below writes over fit same) (none-found _ k.unstored.chains absent) s of join in
+    taken-as (sym (none-taken c.stream_read.result (stream_of (fragments c.args.read.now)) c.stream_read.ensures.stream)) kept
 
 pub returns-in-Err-clause-keeps : goal.returns-in-Err-clause-keeps
 returns-in-Err-clause-keeps c = λ files m said s of join.
     let k = c.args.self.now in
-    let schema = k.folder.schema in
-    let read = c.args.read.now in
-    let limits = subst (λ (t : SchemaValue). IsTrue (is_schema t)) c.schema-schema.ensures c.cols-columns.ensures.limits in
-    let small = subst (λ (t : SchemaValue). AreSmall 131072 t) c.schema-schema.ensures (record { entry = (let a = c.largest_entry-entry.ensures.value in let b = c.largest_entry-entry.ensures.small in omega (arith, a, b)); statics = (let a = c.largest_static-statics.ensures.value in let b = c.largest_static-statics.ensures.small in omega (arith, a, b)) }) in
-    let says = c.populate.ensures.says schema (λ id phase. s.cached.below id) (read ∷ []) (over-of schema k.cache.entries k.unstored.chains m limits small s.cached) (one-fits schema read c.requires.fits) (same-source (read ∷ [])) in
-    used-for _ c.what_is_left_stays_where_the_snapshots_see_the_same.ensures (λ schema u n writes later. c.what_leaves_the_chains_of_both_leaves_their_writes.ensures.beside 131072 schema u n writes later)
-    files k.folder k.unstored c.populate.new.chains k.cache.entries c.populate.new.cache.entries k.readers.items k.segments m c.populate.ensures.rest
-    (cached-filled schema c.args.key.now read k.cache.entries c.populate.new.cache.entries k.unstored.chains c.populate.new.chains m said c.requires.mutation of join c.populate.ensures.entries (λ q id found apart. c.populate.ensures.others q id found apart) s.cached c.requires.fits c.populate.ensures.rest says) s
-
-pub returns-in-Ok-clause-beside : goal.returns-in-Ok-clause-beside
-returns-in-Ok-clause-beside c = record { rest = c.populate.ensures.rest; keys = record { sealed = refl; active = refl }; folder = refl; readers = refl; answered = refl; segments = refl; asked = refl }
-
-pub returns-in-Err-clause-beside : goal.returns-in-Err-clause-beside
-returns-in-Err-clause-beside c = record { rest = c.populate.ensures.rest; keys = record { sealed = refl; active = refl }; folder = refl; readers = refl; answered = refl; segments = refl; asked = refl }
-
-pub returns-in-Ok-clause-stays : goal.returns-in-Ok-clause-stays
-returns-in-Ok-clause-stays c =
-    let k = c.args.self.now in
-    let new : Shard = record k { cache = c.populate.new.cache; unstored = in_chains c.populate.new.chains k.unstored } in
-    on-ok c.stream_read.result _ (filled-known k new c.args.key.now c.requires.stands.2.cached.are c.known.ensures.told (λ none. c.in-Ok.ensures.known none) (λ none q ne. c.in-Ok.ensures.stays none q ne))
-
-pub returns-in-Ok-clause-loses : goal.returns-in-Ok-clause-loses
-returns-in-Ok-clause-loses c = c.populate.ensures.loses
-
-pub returns-in-Err-clause-loses : goal.returns-in-Err-clause-loses
-returns-in-Err-clause-loses c = c.populate.ensures.loses
+    let n = c.take_populated.new.chains in
+    let t = c.in-Err.ensures in
+    filled-for _ c.a_reader_stays.ensures (λ schema u n writes later. c.what_leaves_the_chains_of_both_leaves_their_writes.ensures.beside 131072 schema u n writes later)
+    files k n c.take_populated.new.cache.entries c.args.key.now c.args.read.now 0 m said c.requires.mutation c.requires.fits (rest-plain k.unstored.chains n t.rest_err) c.take_populated.ensures.entries
+    (λ q id found apart. c.take_populated.ensures.others q id found apart) (λ schema below writes over fit same. c.take_populated.ensures.says schema below writes over fit same) (λ id pin there found. t.apart_err id pin found there) s of join

@@ -1,46 +1,68 @@
--- The reader that was opened stands behind the others.
-use Rattle.std.proofs.Common.{◌≡◌, ℕ, List, ◌++◌, ◌∷◌, [], refl, ap, ◌∙◌}
+-- The reader that was opened stands behind the others; else the snapshot of the row cache went.
+use Rattle.std.proofs.Common.{refl, ◌∙◌}
 use Rattle.rc_lookup.specs.Found.{entry_number}
-use Rattle.rc_opened.specs.declared.opened.Opened.{Opened}
-use Rattle.rc_opened.specs.Opened.{snaps_of}
-use Rattle.rc_shard.proofs.Losing.{pinned-loses}
+use Rattle.rc_lookup.specs.NoMore.{counts-then}
+use Rattle.rc_shard.specs.declared.readers.PartitionReader.{PartitionReader}
 use Rattle.rc_shard.specs.declared.shard.Shard.{Shard}
+use Rattle.rc_shard.specs.Readers.{snaps_of}
+use Rattle.rc_shard.proofs.Closing.{past-rest}
 use Rattle.rc_shard.proofs.Known.{known-where}
 use Rattle.rc_shard.proofs.Looking.{known-pinned, same-recency}
-use Rattle.rc_shard.proofs.Opening.{opens-reader}
-use Rattle.rc_shard.proofs.Standing.{on-err}
-use Rattle.rc_shard.proofs.Taking.{keeps-kept}
+use Rattle.rc_shard.proofs.Losing.{pinned-loses}
+use Rattle.rc_shard.proofs.Opened.{none-ok}
+use Rattle.rc_shard.proofs.Opening.{not-opened, opens-reader, source-apart, source-read, source-there, tells-of, told-writes}
+use Rattle.rc_shard.proofs.Standing.{kept-itself, on-err}
 use Rattle.rc_shard.proofs.shard.Shard.open_over.Goals as goal
 
 pub open_in-requires-clause-kept : goal.open_in-requires-clause-kept
-open_in-requires-clause-kept c = let h = c.requires.stands.2.have in (c.args.self.now.folder.schema, h.sealed, h.later, h.have)
+open_in-requires-clause-kept c =
+    let s = c.requires.stands.2 in
+    let h = s.have in
+    let schema = c.args.self.now.folder.schema in
+    let key = c.args.opening.key in
+    let told = told-writes schema key c.requires.stands.1 h.sealed h.later (λ writes later. c.both_say_what_was_written.ensures.changes key writes later) s.over.schema s.sound.mutations s.over.fit h.are in
+    (schema, h.sealed, h.later, h.have, told.of_sealed, told.of_later)
 
-pub open_in-requires-clause-whole : goal.open_in-requires-clause-whole
-open_in-requires-clause-whole c = let told = c.requires.stands.3 in (told.tabled, told.mutation, told.stream)
+pub open_in-requires-clause-there : goal.open_in-requires-clause-there
+open_in-requires-clause-there c = source-there c.args.self.now c.requires.stands.1 c.args.opening.key c.args.source c.requires.stands.3
+
+pub open_in-requires-clause-read : goal.open_in-requires-clause-read
+open_in-requires-clause-read c = source-read c.args.self.now c.requires.stands.1 c.args.opening.key c.args.source c.requires.stands.3
+
+pub returns-in_err-opened-clause-opened : goal.returns-in_err-opened-clause-opened
+returns-in_err-opened-clause-opened c = λ files m s of.
+    let k = c.args.self.now in
+    let told = tells-of _ c.a_reader_stays.ensures files k k.unstored m c.args.opening.key c.args.source s (kept-itself k.folder.schema k.unstored) of in
+    (told.said, told.of_tables, none-ok c.from_residual.result _ c.from_residual.ensures.0)
 
 pub returns-in_err-opened-clause-err : goal.returns-in_err-opened-clause-err
-returns-in_err-opened-clause-err c =
-    on-err _ _ (keeps-kept _ c.what_is_left_stays_where_the_snapshots_see_the_same.ensures c.args.self.now (record c.args.self.now { unstored = c.open_in.new.unstored; readers = c.reserve.new.self }) refl refl refl c.reserve.ensures.items (λ schema e. c.open_in.ensures.kept schema))
-
-pub returns-clause-opened : goal.returns-clause-opened
-returns-clause-opened c = λ files m s told.
-    let x : Opened = c.in_ok-opened.opened in
-    let new : Shard = record c.args.self.now { unstored = c.open_in.new.unstored; readers = c.push.new.self } in
-    let items : c.push.new.self.items ≡ c.args.self.now.readers.items ++ (c.args.id, x) ∷ [] = c.in-Ok.ensures.items ∙ ap (λ (os : List (ℕ × Opened)). os ++ (c.args.id, x) ∷ []) c.reserve.ensures.items in
-    opens-reader _ c.what_is_left_stays_where_the_snapshots_see_the_same.ensures files c.args.self.now new c.args.id c.args.key.now c.args.slice.now x (λ writes later. c.both_say_what_was_written.ensures.changes c.args.key.now writes later)
-    c.requires.unused refl refl refl items (λ schema. c.open_in.ensures.kept schema) told.said (λ schema writes later h fit more. c.in_ok-opened.ensures.gives schema writes later told.tabled told.said h told.mutation told.stream told.joined fit more) c.in_ok-opened.ensures.there c.in_ok-opened.ensures.two c.in_ok-opened.ensures.key c.in_ok-opened.ensures.fresh m s
+returns-in_err-opened-clause-err c = λ files m s of.
+    let k = c.args.self.now in
+    let new : Shard = record k { unstored = c.open_in.new.unstored } in
+    on-err c.from_residual.result _ (not-opened _ c.a_reader_stays.ensures (λ schema u n writes later. c.what_leaves_the_chains_of_both_leaves_their_writes.ensures.beside 131072 schema u n writes later)
+    files k new m c.args.opening.key c.args.source refl refl refl refl (c.in_err-opened.ensures.err k.folder.schema) of s)
 
 pub returns-in_err-opened-clause-counts : goal.returns-in_err-opened-clause-counts
-returns-in_err-opened-clause-counts c = record { answered = refl; segments = refl; asked = refl; none_fell = (c.open_in.ensures.kept c.args.self.now.folder.schema).room.counts }
+returns-in_err-opened-clause-counts c =
+    let k = c.args.self.now in
+    let went = c.in_err-opened.ensures.err k.folder.schema in
+    record { answered = refl; segments = refl; asked = refl; none_fell = counts-then k.unstored.chains went.0.chains c.open_in.new.unstored.chains went.1.room.counts (past-rest _ went.0.chains c.open_in.new.unstored.chains went.2).fell }
 
-pub returns-clause-counts : goal.returns-clause-counts
-returns-clause-counts c = record { answered = refl; segments = refl; asked = refl; none_fell = (c.open_in.ensures.kept c.args.self.now.folder.schema).room.counts }
-
-pub returns-clause-pins : goal.returns-clause-pins
-returns-clause-pins c =
-    let x : Opened = c.in_ok-opened.opened in
-    let items : c.push.new.self.items ≡ c.args.self.now.readers.items ++ (c.args.id, x) ∷ [] = c.in-Ok.ensures.items ∙ ap (λ (os : List (ℕ × Opened)). os ++ (c.args.id, x) ∷ []) c.reserve.ensures.items in
-    (x, items, c.in_ok-opened.ensures.pins)
+pub returns-clause-opened : goal.returns-clause-opened
+returns-clause-opened c = λ files m s of.
+    let k = c.args.self.now in
+    let x : PartitionReader = c.in_ok-opened.opened in
+    let key = c.args.opening.key in
+    let source = c.args.source in
+    let new : Shard = record k { unstored = c.open_in.new.unstored; readers = c.push.new.self } in
+    let t = c.in_ok-opened.ensures in
+    let told = tells-of _ c.a_reader_stays.ensures files k c.open_in.new.unstored m key source s (t.kept k.folder.schema) of in (
+      told.said,
+      told.of_tables,
+      opens-reader _ c.a_reader_stays.ensures files k new c.args.id key c.args.opening.slice x source (λ writes later. c.both_say_what_was_written.ensures.changes key writes later)
+          c.requires.unused refl refl refl c.in-Ok.ensures.items (λ schema. t.kept schema) told.said (λ schema writes later below h of_writes of_later of_tables tells. t.gives schema writes later below told.said h of_writes of_later of_tables tells)
+          t.held t.snap t.key (t.tables ∙ c.requires.tables) t.fresh (source-apart k m key source of) m s told.of_tables told.tells told.fits,
+    )
 
 pub returns-clause-stays : goal.returns-clause-stays
 returns-clause-stays c = λ q.

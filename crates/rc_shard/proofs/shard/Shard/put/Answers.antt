@@ -11,19 +11,19 @@ use Rattle.rc_shard.proofs.shard.Shard.put.Goals as goal
 pub returns-in_err-put_in-clause-err : goal.returns-in_err-put_in-clause-err
 returns-in_err-put_in-clause-err c =
     let new : Shard = record c.args.self.now { unstored = c.put_in.new.unstored } in
-    on-err _ _ (keeps-kept _ c.what_is_left_stays_where_the_snapshots_see_the_same.ensures c.args.self.now new refl refl refl refl
+    on-err _ _ (keeps-kept _ c.a_reader_stays.ensures c.args.self.now new refl refl refl refl
     (λ schema e. subst (λ (s : SchemaValue). KeepsUnstored s c.args.self.now.unstored c.put_in.new.unstored) (c.schema-schema.ensures ∙ sym e) c.in_err-put_in.ensures.err))
 
 pub returns-then-branch-clause-step : goal.returns-then-branch-clause-step
 returns-then-branch-clause-step c = λ files.
     let new : Shard = record c.args.self.now { unstored = c.put_in.new.unstored } in
-    takes-put _ c.what_is_left_stays_where_the_snapshots_see_the_same.ensures files c.args.self.now new c.args.write.now c.requires.fits c.holds_together.ensures refl refl refl refl
+    takes-put _ c.a_reader_stays.ensures files c.args.self.now new c.args.write.now c.requires.fits c.holds_together.ensures refl refl refl refl
     (subst (λ (s : SchemaValue). TakesWrite s c.args.write.now c.args.self.now.unstored c.put_in.new.unstored) c.schema-schema.ensures (c.in_ok-put_in.ensures.put c.if-branch.true))
 
 pub returns-else-branch-clause-step : goal.returns-else-branch-clause-step
 returns-else-branch-clause-step c = λ files.
     let new : Shard = record c.args.self.now { unstored = c.put_in.new.unstored } in
-    takes-full _ c.what_is_left_stays_where_the_snapshots_see_the_same.ensures files c.args.self.now new c.args.write.now refl refl refl refl
+    takes-full _ c.a_reader_stays.ensures files c.args.self.now new c.args.write.now refl refl refl refl
     (subst (λ (s : SchemaValue). KeepsUnstored s c.args.self.now.unstored c.put_in.new.unstored) c.schema-schema.ensures (c.in_ok-put_in.ensures.kept c.if-branch.false))
     (c.in_ok-put_in.ensures.full c.if-branch.false)
 

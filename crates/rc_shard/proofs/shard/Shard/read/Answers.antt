@@ -1,91 +1,140 @@
--- The reader's place is that of its id.
-use Rattle.std.proofs.Common.{◌≡◌, ◌==◌, ℕ, List, Some, None, position, refl, sym, ap, ◌∙◌, subst, arith}
-use Rattle.std.specs.Vec.{with_item}
-use Rattle.rc_machine.specs.State.{rest_of}
-use Rattle.rc_memory.specs.Memory.{Memory}
-use Rattle.rc_lookup.specs.Memtables.{in_chains}
-use Rattle.rc_opened.specs.declared.opened.Opened.{Opened}
-use Rattle.rc_shard.specs.declared.shard.Shard.{Shard}
-use Rattle.rc_shard.specs.calls.Caching.{LeavesCache}
-use Rattle.rc_shard.proofs.Caching.{leaves-itself}
-use Rattle.rc_lines.specs.declared.commands.Command.TheVariants.{Read}
+-- The reader's place is that of its id; it gives a page, or goes on past the row cache.
+use Rattle.std.proofs.Common.{◌≡◌, ◌==◌, ℕ, List, Option, Some, None, position, refl, sym, ap, ◌∙◌, subst}
+use Rattle.std.specs.Prelude.{IfSome}
+use Rattle.rc_paging.specs.Pages.{IsKnownWhole}
 use Rattle.rc_lines.specs.declared.commands.Reply.TheVariants.{Given}
-use Rattle.rc_lookup.specs.LetGo.{NoCountFell}
-use Rattle.rc_shard.proofs.Rereading.{leaves-touched, takes-touched, touched-as-given}
+use Rattle.rc_machine.specs.Steps.{reader_past}
+use Rattle.rc_shard.specs.declared.readers.PartitionReader.{PartitionReader}
+use Rattle.rc_shard.specs.Readers.{cached_of}
+use Rattle.rc_shard.specs.calls.Reading.{with_reader}
+use Rattle.rc_shard.proofs.Given.{counts-after, given-counts, given-of, is-there, paged-kept, paged-place, reader-in, stays-behind, stays-given, stops-behind, stops-same, takes-behind, takes-told, touches-behind, touches-given, untold-counts, untold-of}
 use Rattle.rc_shard.proofs.Places.{nowhere-of, place-of}
-use Rattle.rc_shard.proofs.Standing.{on-err}
-use Rattle.rc_shard.proofs.Taking.{found-at, keeps-read, no-more-same, takes-no-read, takes-read}
+use Rattle.rc_shard.proofs.Rereading.{reader-at}
+use Rattle.rc_shard.proofs.Standing.{if-ok-weaker, on-err-weaker}
+use Rattle.rc_shard.proofs.Taking.{takes-no-read, takes-paged}
 use Rattle.rc_shard.proofs.shard.Shard.read.Goals as goal
-use Rattle.rc_shard.proofs.Counted.{counts-itself}
 
-pub read-requires : goal.read-requires
-read-requires c =
-    let s = c.requires in
-    let at = place-of c.args.id c.args.self.now.readers.items c.in-Some.at (subst (λ (os : List (ℕ × Opened)). position (λ reader. reader.0 == c.args.id) os ≡ Some c.in-Some.at) c.as_slice.ensures.value (sym c.in-Some.ensures)) in
-    let f = found-at _ s.0 c.args.self.now s.1 c.args.id c.in-Some.at c.index_mut-reader.result.now s.2 at (sym c.index_mut-reader.ensures.value) in
-    (omega arith, (rest_of f.reader, f.left))
+pub page-requires : goal.page-requires
+page-requires g c =
+    let place = subst (λ (os : List (ℕ × PartitionReader)). position (λ reader. reader.0 == c.args.id) os ≡ Some c.in-Some.at) c.as_slice.ensures.value (sym c.in-Some.ensures) in
+    (c.args.id, g.W.Store.files c.args.store.now, c.requires.0, c.requires.1, place)
 
-pub returns-in_err-lines-in-Some-clause-err : goal.returns-in_err-lines-in-Some-clause-err
-returns-in_err-lines-in-Some-clause-err c =
-    let at = place-of c.args.id c.args.self.now.readers.items c.in-Some.at (subst (λ (os : List (ℕ × Opened)). position (λ reader. reader.0 == c.args.id) os ≡ Some c.in-Some.at) c.as_slice.ensures.value (sym c.in-Some.ensures)) in
-    let pair : ℕ × Opened = (c.index_mut-reader.result.now.0, c.read.new.self) in
-    let same : pair.0 ≡ c.index_mut-reader.result.now.0 = refl in
-    let new : Shard = record c.args.self.now { unstored = in_chains c.read.new.chains c.args.self.now.unstored; readers = with_item c.args.self.now.readers c.in-Some.at pair } in
-    on-err _ _ (keeps-read _ c.args.self.now new c.args.id c.in-Some.at c.index_mut-reader.result.now pair at (sym c.index_mut-reader.ensures.value) c.in_err-lines-in-Some.ensures.left same c.read.ensures.key c.read.ensures.snaps
-    refl refl (ap (λ (x : Memory). in_chains x c.args.self.now.unstored) c.read.ensures.chains) refl refl)
+pub give-requires : goal.give-requires
+give-requires g c =
+    let files = g.W.Store.files c.args.store.now in
+    let place = subst (λ (os : List (ℕ × PartitionReader)). position (λ reader. reader.0 == c.args.id) os ≡ Some c.in-Some.at) c.as_slice.ensures.value (sym c.in-Some.ensures) in
+    let p = c.in-Ok.ensures.gives c.args.id files c.requires.0 c.requires.1 place in
+    (c.args.id, files, with_reader c.args.id (reader_past c.args.count p.reader) c.requires.0, p.stands, paged-place c.args.self.now c.page.new.self c.args.id c.in-Some.at c.page.ensures.beside place)
+
+pub read_past-requires : goal.read_past-requires
+read_past-requires g c =
+    let place = subst (λ (os : List (ℕ × PartitionReader)). position (λ reader. reader.0 == c.args.id) os ≡ Some c.in-Some.at) c.as_slice.ensures.value (sym c.in-Some.ensures) in
+    (c.args.id, c.requires.0, c.in-Err-Missing.ensures.err (g.W.Store.files c.args.store.now) c.requires.0 c.requires.1, paged-place c.args.self.now c.page.new.self c.args.id c.in-Some.at c.page.ensures.beside place)
 
 pub returns-in-None-clause-step : goal.returns-in-None-clause-step
-returns-in-None-clause-step c = λ files.
-    takes-no-read _ files c.args.self.now c.args.id c.args.count (nowhere-of c.args.id c.args.self.now.readers.items (subst (λ (os : List (ℕ × Opened)). position (λ reader. reader.0 == c.args.id) os ≡ None) c.as_slice.ensures.value (sym c.in-None.ensures)))
+returns-in-None-clause-step g c =
+    takes-no-read _ (g.W.Store.files c.args.store.now) c.args.self.now c.args.id c.args.count (nowhere-of c.args.id c.args.self.now.readers.items (subst (λ (os : List (ℕ × PartitionReader)). position (λ reader. reader.0 == c.args.id) os ≡ None) c.as_slice.ensures.value (sym c.in-None.ensures)))
 
-pub returns-in_ok-lines-in-Some-clause-step : goal.returns-in_ok-lines-in-Some-clause-step
-returns-in_ok-lines-in-Some-clause-step c = λ files.
+-- ---- a page was given
+
+pub returns-in-Ok-clause-step : goal.returns-in-Ok-clause-step
+returns-in-Ok-clause-step g c =
+    let files = g.W.Store.files c.args.store.now in
     let k = c.args.self.now in
-    let at = place-of c.args.id k.readers.items c.in-Some.at (subst (λ (os : List (ℕ × Opened)). position (λ reader. reader.0 == c.args.id) os ≡ Some c.in-Some.at) c.as_slice.ensures.value (sym c.in-Some.ensures)) in
-    let pair : ℕ × Opened = (c.index_mut-reader.result.now.0, c.read.new.self) in
-    let same : pair.0 ≡ c.index_mut-reader.result.now.0 = refl in
-    let mid : Shard = record k { unstored = in_chains c.read.new.chains k.unstored; readers = with_item k.readers c.in-Some.at pair } in
-    let kept = c.keep_recent.ensures in
-    takes-touched _ c.what_is_left_stays_where_the_snapshots_see_the_same.ensures (λ schema u n writes later. c.what_leaves_the_chains_of_both_leaves_their_writes.ensures.beside 131072 schema u n writes later)
-    files k mid c.keep_recent.new.chains (Read c.args.id c.args.count) (Given c.in_ok-lines-in-Some.lines c.in_ok-lines-in-Some.more) _ kept.touched kept.rest kept.used kept.says kept.entries
-    (takes-read _ files k mid c.args.id c.args.count c.in-Some.at c.index_mut-reader.result.now pair c.in_ok-lines-in-Some.lines c.in_ok-lines-in-Some.more at (sym c.index_mut-reader.ensures.value)
-    c.in_ok-lines-in-Some.ensures.gives c.in_ok-lines-in-Some.ensures.more c.in_ok-lines-in-Some.ensures.left same c.read.ensures.key c.read.ensures.snaps
-    refl refl (ap (λ (x : Memory). in_chains x k.unstored) c.read.ensures.chains) refl refl)
+    let new = c.give.new.self in
+    let place = subst (λ (os : List (ℕ × PartitionReader)). position (λ reader. reader.0 == c.args.id) os ≡ Some c.in-Some.at) c.as_slice.ensures.value (sym c.in-Some.ensures) in
+    takes-told _ files files k new c.args.id c.args.count c.give.result (Given c.in-Ok.lines c.in-Ok.more) c.give.ensures.reply refl
+    (takes-paged _ files k new c.args.id c.args.count c.in-Ok.lines c.in-Ok.more (λ m s. paged-kept _ files c.args.id c.args.count m (c.in-Ok.lines, c.in-Ok.more) c.page.new.self new c.give.ensures.keeps (c.in-Ok.ensures.gives c.args.id files m s place)))
 
-pub returns-in_err-lines-in-Some-clause-counts : goal.returns-in_err-lines-in-Some-clause-counts
-returns-in_err-lines-in-Some-clause-counts c = record { answered = refl; segments = refl; asked = refl; none_fell = (no-more-same c.args.self.now.unstored.chains c.read.new.chains c.read.ensures.chains).counts }
-
-pub returns-in_ok-lines-in-Some-clause-counts : goal.returns-in_ok-lines-in-Some-clause-counts
-returns-in_ok-lines-in-Some-clause-counts c = record { answered = refl; segments = refl; asked = refl; none_fell = subst (λ (m : Memory). NoCountFell m c.keep_recent.new.chains) c.read.ensures.chains c.keep_recent.ensures.rest.counts }
-
-pub returns-in-None-clause-counts : goal.returns-in-None-clause-counts
-returns-in-None-clause-counts c = counts-itself c.args.self.now
-
-pub returns-in-None-clause-left : goal.returns-in-None-clause-left
-returns-in-None-clause-left c = record { cache = refl; left = leaves-itself c.args.self.now.unstored.chains }
-
-pub returns-in_err-lines-in-Some-clause-left : goal.returns-in_err-lines-in-Some-clause-left
-returns-in_err-lines-in-Some-clause-left c = record { cache = refl; left = subst (LeavesCache c.args.self.now.unstored.chains) (sym c.read.ensures.chains) (leaves-itself c.args.self.now.unstored.chains) }
-
-pub returns-in_ok-lines-in-Some-clause-left : goal.returns-in_ok-lines-in-Some-clause-left
-returns-in_ok-lines-in-Some-clause-left c =
-    let kept = c.keep_recent.ensures in
-    record { cache = refl; left = subst (λ (m : Memory). LeavesCache m c.keep_recent.new.chains) c.read.ensures.chains (leaves-touched _ c.read.new.chains c.keep_recent.new.chains kept.touched kept.rest kept.used kept.says kept.entries) }
-
-pub returns-in-None-clause-same : goal.returns-in-None-clause-same
-returns-in-None-clause-same c = refl
-
-pub returns-in_err-lines-in-Some-clause-same : goal.returns-in_err-lines-in-Some-clause-same
-returns-in_err-lines-in-Some-clause-same c = ap (λ (m : Memory). m.counts) c.read.ensures.chains
-
-pub returns-in_ok-lines-in-Some-clause-same : goal.returns-in_ok-lines-in-Some-clause-same
-returns-in_ok-lines-in-Some-clause-same c = ap (λ (m : Memory). m.counts) c.keep_recent.ensures.touched.same ∙ ap (λ (m : Memory). m.counts) c.read.ensures.chains
-
-pub returns-in_ok-lines-in-Some-clause-touches : goal.returns-in_ok-lines-in-Some-clause-touches
-returns-in_ok-lines-in-Some-clause-touches c =
+pub returns-in-Ok-clause-same : goal.returns-in-Ok-clause-same
+returns-in-Ok-clause-same g c =
     let k = c.args.self.now in
-    let at = place-of c.args.id k.readers.items c.in-Some.at (subst (λ (os : List (ℕ × Opened)). position (λ reader. reader.0 == c.args.id) os ≡ Some c.in-Some.at) c.as_slice.ensures.value (sym c.in-Some.ensures)) in
-    let pair : ℕ × Opened = (c.index_mut-reader.result.now.0, c.read.new.self) in
-    let new : Shard = record k { unstored = in_chains c.keep_recent.new.chains k.unstored; readers = with_item k.readers c.in-Some.at pair } in
-    touched-as-given c.args.id c.in-Some.at c.index_mut-reader.result.now c.key-key.result.now c.as_slice-in-Some.result.now c.in_ok-lines-in-Some.lines k new c.read.new.chains at (sym c.index_mut-reader.ensures.value)
-    (c.key-key.ensures ∙ c.read.ensures.key) c.as_slice-in-Some.ensures c.read.ensures.chains refl c.keep_recent.ensures.touched
+    let place = subst (λ (os : List (ℕ × PartitionReader)). position (λ reader. reader.0 == c.args.id) os ≡ Some c.in-Some.at) c.as_slice.ensures.value (sym c.in-Some.ensures) in
+    let d = reader-in k c.args.id c.in-Some.at place in
+    let given = given-of k c.page.new.self c.give.new.self c.args.id c.in-Some.at d c.in-Ok.lines (place-of c.args.id k.readers.items c.in-Some.at place) (is-there k c.args.id c.in-Some.at place) c.page.ensures.beside c.give.ensures.beside (λ o h. c.give.ensures.touches o h) c.give.ensures.left in
+    given.counts
+
+pub returns-in-Ok-clause-stays : goal.returns-in-Ok-clause-stays
+returns-in-Ok-clause-stays g c =
+    let k = c.args.self.now in
+    let place = subst (λ (os : List (ℕ × PartitionReader)). position (λ reader. reader.0 == c.args.id) os ≡ Some c.in-Some.at) c.as_slice.ensures.value (sym c.in-Some.ensures) in
+    let d = reader-in k c.args.id c.in-Some.at place in
+    let given = given-of k c.page.new.self c.give.new.self c.args.id c.in-Some.at d c.in-Ok.lines (place-of c.args.id k.readers.items c.in-Some.at place) (is-there k c.args.id c.in-Some.at place) c.page.ensures.beside c.give.ensures.beside (λ o h. c.give.ensures.touches o h) c.give.ensures.left in
+    stays-given c.args.id c.args.count d c.in-Ok.lines k c.give.new.self c.requires.1.cached.are c.known.ensures.told given
+
+pub returns-in-Ok-clause-touches : goal.returns-in-Ok-clause-touches
+returns-in-Ok-clause-touches g c =
+    let k = c.args.self.now in
+    let place = subst (λ (os : List (ℕ × PartitionReader)). position (λ reader. reader.0 == c.args.id) os ≡ Some c.in-Some.at) c.as_slice.ensures.value (sym c.in-Some.ensures) in
+    let d = reader-in k c.args.id c.in-Some.at place in
+    let p = place-of c.args.id k.readers.items c.in-Some.at place in
+    let here = is-there k c.args.id c.in-Some.at place in
+    let given = given-of k c.page.new.self c.give.new.self c.args.id c.in-Some.at d c.in-Ok.lines p here c.page.ensures.beside c.give.ensures.beside (λ o h. c.give.ensures.touches o h) c.give.ensures.left in
+    touches-given c.args.id c.args.count c.in-Some.at d c.in-Ok.lines c.in-Ok.more c.give.result k c.give.new.self p here c.give.ensures.reply given
+
+pub returns-in-Ok-clause-counts : goal.returns-in-Ok-clause-counts
+returns-in-Ok-clause-counts g c =
+    let k = c.args.self.now in
+    let place = subst (λ (os : List (ℕ × PartitionReader)). position (λ reader. reader.0 == c.args.id) os ≡ Some c.in-Some.at) c.as_slice.ensures.value (sym c.in-Some.ensures) in
+    let d = reader-in k c.args.id c.in-Some.at place in
+    let given = given-of k c.page.new.self c.give.new.self c.args.id c.in-Some.at d c.in-Ok.lines (place-of c.args.id k.readers.items c.in-Some.at place) (is-there k c.args.id c.in-Some.at place) c.page.ensures.beside c.give.ensures.beside (λ o h. c.give.ensures.touches o h) c.give.ensures.left in
+    given-counts d c.in-Ok.lines k c.give.new.self given
+
+-- ---- something is missing
+
+pub returns-in-Err-Missing-clause-step : goal.returns-in-Err-Missing-clause-step
+returns-in-Err-Missing-clause-step g c =
+    let files = g.W.Store.files c.args.store.now in
+    let k = c.args.self.now in
+    let mid = c.page.new.self in
+    let place = subst (λ (os : List (ℕ × PartitionReader)). position (λ reader. reader.0 == c.args.id) os ≡ Some c.in-Some.at) c.as_slice.ensures.value (sym c.in-Some.ensures) in
+    if-ok-weaker c.read_past.result _ _ (λ reply t. takes-behind _ files (g.W.Store.files c.read_past.new.store) k mid c.read_past.new.self c.args.id c.args.count reply c.in-Err-Missing.ensures.err t)
+    (c.read_past.ensures.step c.args.id (paged-place k mid c.args.id c.in-Some.at c.page.ensures.beside place))
+
+pub returns-in-Err-Missing-clause-err : goal.returns-in-Err-Missing-clause-err
+returns-in-Err-Missing-clause-err g c =
+    let files = g.W.Store.files c.args.store.now in
+    let k = c.args.self.now in
+    let mid = c.page.new.self in
+    let place = subst (λ (os : List (ℕ × PartitionReader)). position (λ reader. reader.0 == c.args.id) os ≡ Some c.in-Some.at) c.as_slice.ensures.value (sym c.in-Some.ensures) in
+    on-err-weaker c.read_past.result _ _ (λ t. stops-behind _ files (g.W.Store.files c.read_past.new.store) k mid c.read_past.new.self c.args.id c.args.count c.in-Err-Missing.ensures.err t)
+    (c.read_past.ensures.err c.args.id (paged-place k mid c.args.id c.in-Some.at c.page.ensures.beside place))
+
+pub returns-in-Err-Missing-clause-asks : goal.returns-in-Err-Missing-clause-asks
+returns-in-Err-Missing-clause-asks g c = λ m s.
+    let k = c.args.self.now in
+    let mid = c.page.new.self in
+    let place = subst (λ (os : List (ℕ × PartitionReader)). position (λ reader. reader.0 == c.args.id) os ≡ Some c.in-Some.at) c.as_slice.ensures.value (sym c.in-Some.ensures) in
+    c.read_past.ensures.asks c.args.id m (paged-place k mid c.args.id c.in-Some.at c.page.ensures.beside place) (c.in-Err-Missing.ensures.err (g.W.Store.files c.args.store.now) m s)
+
+pub returns-in-Err-Missing-clause-known : goal.returns-in-Err-Missing-clause-known
+returns-in-Err-Missing-clause-known g c =
+    let k = c.args.self.now in
+    let place = subst (λ (os : List (ℕ × PartitionReader)). position (λ reader. reader.0 == c.args.id) os ≡ Some c.in-Some.at) c.as_slice.ensures.value (sym c.in-Some.ensures) in
+    let d = reader-in k c.args.id c.in-Some.at place in
+    let here = is-there k c.args.id c.in-Some.at place in
+    subst (λ (o : Option PartitionReader). IfSome o (λ x. IsKnownWhole k.unstored.chains (cached_of x) → g.W.Store.asks c.read_past.new.store ≡ g.W.Store.asks c.args.store.now)) (sym (reader-at c.args.id c.in-Some.at d k.readers.items (place-of c.args.id k.readers.items c.in-Some.at place) here))
+    (λ whole. absurd ((c.in-Err-Missing.ensures.missing d here c.in-Err-Missing.field-0-is).1 whole))
+
+pub returns-in-Err-Missing-clause-stays : goal.returns-in-Err-Missing-clause-stays
+returns-in-Err-Missing-clause-stays g c = stays-behind c.args.id c.args.count c.args.self.now c.page.new.self c.read_past.new.self (untold-of c.in-Some.at c.args.self.now c.page.new.self c.page.ensures.beside) (c.read_past.ensures.stays c.args.id)
+
+pub returns-in-Err-Missing-clause-touches : goal.returns-in-Err-Missing-clause-touches
+returns-in-Err-Missing-clause-touches g c =
+    let k = c.args.self.now in
+    let mid = c.page.new.self in
+    let place = subst (λ (os : List (ℕ × PartitionReader)). position (λ reader. reader.0 == c.args.id) os ≡ Some c.in-Some.at) c.as_slice.ensures.value (sym c.in-Some.ensures) in
+    let now = paged-place k mid c.args.id c.in-Some.at c.page.ensures.beside place in
+    if-ok-weaker c.read_past.result _ _ (λ reply t. touches-behind c.args.id c.args.count c.in-Some.at (reader-in k c.args.id c.in-Some.at place) reply k mid c.read_past.new.self (place-of c.args.id k.readers.items c.in-Some.at place) (place-of c.args.id mid.readers.items c.in-Some.at now) (is-there k c.args.id c.in-Some.at place) c.page.ensures.beside t)
+    (c.read_past.ensures.touches c.args.id now)
+
+pub returns-in-Err-Missing-clause-same : goal.returns-in-Err-Missing-clause-same
+returns-in-Err-Missing-clause-same g c = c.read_past.ensures.same ∙ ap (λ u. u.chains.counts) c.page.ensures.beside.unstored
+
+pub returns-in-Err-Missing-clause-counts : goal.returns-in-Err-Missing-clause-counts
+returns-in-Err-Missing-clause-counts g c = counts-after c.args.self.now c.page.new.self c.read_past.new.self (untold-counts c.args.self.now c.page.new.self (untold-of c.in-Some.at c.args.self.now c.page.new.self c.page.ensures.beside)) c.read_past.ensures.counts
+
+-- ---- memory ran out
+
+pub returns-in-Err-NoMemory-clause-err : goal.returns-in-Err-NoMemory-clause-err
+returns-in-Err-NoMemory-clause-err g c = let files = g.W.Store.files c.args.store.now in stops-same _ files files c.args.self.now c.page.new.self c.args.id c.args.count refl c.in-Err-NoMemory.ensures.err

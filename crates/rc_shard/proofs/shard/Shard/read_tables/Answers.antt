@@ -1,16 +1,13 @@
 -- What was read fits, and is put into the row cache; where it could not be read nothing is done.
-use Rattle.std.proofs.Common.{◌≡◌}
-use Rattle.rc_mutation.specs.Fragments.{fragments}
 use Rattle.rc_mutation.specs.declared.mutations.Mutation.{Mutation}
-use Rattle.rc_stream.specs.Stream.{Stream, stream_of}
 use Rattle.rc_lookup.specs.Crowds.{loses-nothing}
 use Rattle.rc_lookup.specs.Losing.{loses-wider}
 use Rattle.rc_shard.proofs.Filled.{cause-of, no-damage, read-cause, read-fits}
 use Rattle.std.specs.Prelude.{Err}
+use Rattle.rc_shard.specs.declared.readers.Source.{Source}
 use Rattle.rc_shard.specs.calls.Looking.{AreKnownStill}
 use Rattle.rc_shard.proofs.Known.{known-itself, unless-all, unless-ok}
 use Rattle.rc_shard.proofs.Looking.{used-itself}
-use Rattle.rc_shard.proofs.Standing.{if-ok-weaker}
 use Rattle.rc_shard.proofs.shard.Shard.read_tables.Goals as goal
 
 pub fill-requires-clause-stands : goal.fill-requires-clause-stands
@@ -24,9 +21,7 @@ fill-requires-clause-fits g c =
     read-fits c.args.self.now.folder.schema c.in-Ok.read c.args.self.now.folder.infos c.args.key.now c.in-Ok.ensures.mutation (λ read changes is join. c.a_join_says_what_the_writes_say.ensures read changes is join) (λ schema read changes is same fits. c.what_says_the_same_fits.ensures schema read changes is same fits) c.in-Ok.ensures.some
 
 pub returns-in-Ok-clause-says : goal.returns-in-Ok-clause-says
-returns-in-Ok-clause-says g c = λ m s.
-    let a = c.in-Ok.ensures.said m s.over in
-    if-ok-weaker c.fill.result (λ list. list ≡ stream_of (fragments c.in-Ok.read)) _ (λ list e. record { tabled = c.in-Ok.read; said = a.0; mutation = c.in-Ok.ensures.mutation; stream = e; of_tables = a.1; joined = a.2 }) c.fill.ensures.stream
+returns-in-Ok-clause-says g c = λ m s. let a = c.in-Ok.ensures.said m s.over in c.fill.ensures.says (g.W.Store.files c.args.store.now) m a.0 s a.1 a.2
 
 pub returns-in-Ok-clause-whole : goal.returns-in-Ok-clause-whole
 returns-in-Ok-clause-whole g c = c.fill.ensures.whole
@@ -53,13 +48,13 @@ pub returns-in-Ok-clause-cause : goal.returns-in-Ok-clause-cause
 returns-in-Ok-clause-cause g c = read-cause c.fill.result (g.W.Store.files c.args.store.now) (g.W.Store.faults c.args.store.now) (g.W.Store.faults c.read.new.store) c.in-Ok.ensures.cause c.fill.ensures.refused
 
 pub returns-in-Err-clause-cause : goal.returns-in-Err-clause-cause
-returns-in-Err-clause-cause g c = cause-of Mutation Stream c.in-Err.error (g.W.Store.files c.args.store.now) (g.W.Store.faults c.args.store.now) (g.W.Store.faults c.read.new.store) c.in-Err.ensures.cause
+returns-in-Err-clause-cause g c = cause-of Mutation Source c.in-Err.error (g.W.Store.files c.args.store.now) (g.W.Store.faults c.args.store.now) (g.W.Store.faults c.read.new.store) c.in-Err.ensures.cause
 
 pub returns-in-Ok-clause-stays : goal.returns-in-Ok-clause-stays
 returns-in-Ok-clause-stays g c = unless-ok c.fill.result _ c.fill.ensures.stays c.fill.ensures.refused
 
 pub returns-in-Err-clause-stays : goal.returns-in-Err-clause-stays
-returns-in-Err-clause-stays g c = unless-all {T = Stream} (Err c.in-Err.error) (AreKnownStill c.args.self.now c.args.self.now) (λ none q. known-itself c.args.self.now q)
+returns-in-Err-clause-stays g c = unless-all {T = Source} (Err c.in-Err.error) (AreKnownStill c.args.self.now c.args.self.now) (λ none q. known-itself c.args.self.now q)
 
 pub returns-in-Ok-clause-loses : goal.returns-in-Ok-clause-loses
 returns-in-Ok-clause-loses g c = c.fill.ensures.loses

@@ -1,5 +1,7 @@
 -- Each step is that of its command.
-use Rattle.std.proofs.Common.{◌+◌, ◌∙◌, ap, inl, refl}
+use Rattle.std.proofs.Common.{◌+◌, ◌*◌, ◌≤◌, ◌∙◌, List, ap, inl, refl, subst, sym}
+use Rattle.rc_tfile.specs.declared.info.TableInfo.{TableInfo}
+use Rattle.rc_tables.specs.Tables.{listing}
 use Rattle.rc_shard.proofs.Standing.{on-err-weaker}
 use Rattle.rc_shard.specs.declared.shard.Shard.{Shard}
 use Rattle.rc_shard.proofs.Taking.{keeps-files, keeps-kept}
@@ -27,10 +29,10 @@ pub returns-in-OpenRead-clause-err : goal.returns-in-OpenRead-clause-err
 returns-in-OpenRead-clause-err g c = rw (c.in-OpenRead.is) (on-err-weaker c.open_read.result _ _ (λ keeps m s. (m, refl, keeps-files _ _ _ c.open_read.new.self m c.open_read.ensures.store.0 (keeps m s))) c.open_read.ensures.err)
 
 pub returns-in-Read-clause-step : goal.returns-in-Read-clause-step
-returns-in-Read-clause-step g c = rw (c.in-Read.is) (c.read.ensures.step (g.W.Store.files c.args.store.now))
+returns-in-Read-clause-step g c = rw (c.in-Read.is) c.read.ensures.step
 
 pub returns-in-Read-clause-err : goal.returns-in-Read-clause-err
-returns-in-Read-clause-err g c = rw (c.in-Read.is) (on-err-weaker c.read.result _ _ (λ keeps m s. (m, refl, keeps (g.W.Store.files c.args.store.now) m s)) c.read.ensures.err)
+returns-in-Read-clause-err g c = rw (c.in-Read.is) c.read.ensures.err
 
 pub returns-in-Close-clause-step : goal.returns-in-Close-clause-step
 returns-in-Close-clause-step g c = rw (c.in-Close.is) (c.close_reader.ensures.step (g.W.Store.files c.args.store.now))
@@ -45,7 +47,7 @@ pub returns-in-Compact-clause-step : goal.returns-in-Compact-clause-step
 returns-in-Compact-clause-step g c =
     let files = g.W.Store.files c.args.store.now in
     let new : Shard = record c.args.self.now { unstored = c.compact.new.unstored } in
-    let keeps = keeps-kept _ c.what_is_left_stays_where_the_snapshots_see_the_same-in-Compact.ensures c.args.self.now new refl refl refl refl (λ schema e. c.compact.ensures.kept schema) in
+    let keeps = keeps-kept _ c.a_reader_stays-in-Compact.ensures c.args.self.now new refl refl refl refl (λ schema e. c.compact.ensures.kept schema) in
     rw (c.in-Compact.is) (λ m s. (m, (refl, refl), keeps files m s))
 
 -- what is counted
@@ -98,7 +100,7 @@ pub returns-in-Put-clause-filled : goal.returns-in-Put-clause-filled
 returns-in-Put-clause-filled g c = rw (c.in-Put.is) (if-ok-all c.put.result _ (λ reply. tt))
 
 pub returns-in-Read-clause-known : goal.returns-in-Read-clause-known
-returns-in-Read-clause-known g c = rw (c.in-Read.is) tt
+returns-in-Read-clause-known g c = rw (c.in-Read.is) c.read.ensures.known
 
 pub returns-in-Read-clause-filled : goal.returns-in-Read-clause-filled
 returns-in-Read-clause-filled g c = rw (c.in-Read.is) (if-ok-all c.read.result _ (λ reply. tt))
@@ -120,7 +122,7 @@ pub returns-in-Evict-clause-step : goal.returns-in-Evict-clause-step
 returns-in-Evict-clause-step g c =
     let files = g.W.Store.files c.args.store.now in
     let new : Shard = record c.args.self.now { unstored = c.evict.new.unstored } in
-    let keeps = keeps-kept _ c.what_is_left_stays_where_the_snapshots_see_the_same.ensures c.args.self.now new refl refl refl refl (λ schema e. c.evict.ensures.kept schema) in
+    let keeps = keeps-kept _ c.a_reader_stays.ensures c.args.self.now new refl refl refl refl (λ schema e. c.evict.ensures.kept schema) in
     rw (c.in-Evict.is) (λ m s. (m, (refl, refl), keeps files m s))
 
 pub returns-in-Evict-clause-counts : goal.returns-in-Evict-clause-counts
@@ -197,10 +199,10 @@ pub returns-in-Put-clause-stays : goal.returns-in-Put-clause-stays
 returns-in-Put-clause-stays g c = on-ok c.put.result _ (λ none key spared. left-known c.args.self.now c.put.new.self c.requires.stands.1.cached.are c.known.ensures.told c.put.ensures.left none key)
 
 pub returns-in-Read-clause-stays : goal.returns-in-Read-clause-stays
-returns-in-Read-clause-stays g c = on-ok c.read.result _ (λ none key spared. left-known c.args.self.now c.read.new.self c.requires.stands.1.cached.are c.known.ensures.told c.read.ensures.left none key)
+returns-in-Read-clause-stays g c = rw (c.in-Read.is) (on-ok c.read.result _ c.read.ensures.stays)
 
 pub returns-in-Close-clause-stays : goal.returns-in-Close-clause-stays
-returns-in-Close-clause-stays g c = λ none key spared. left-known c.args.self.now c.close_reader.new.self c.requires.stands.1.cached.are c.known.ensures.told c.close_reader.ensures.left none key
+returns-in-Close-clause-stays g c = rw (c.in-Close.is) c.close_reader.ensures.stays
 
 pub returns-in-OpenRead-clause-stays : goal.returns-in-OpenRead-clause-stays
 returns-in-OpenRead-clause-stays g c = on-ok-weaker c.open_read.result _ _ (λ h none key spared. h none key) c.open_read.ensures.stays
@@ -276,3 +278,13 @@ returns-in-Compact-clause-crowds g c = rw (c.in-Compact.is) tt
 
 pub returns-in-Stats-clause-crowds : goal.returns-in-Stats-clause-crowds
 returns-in-Stats-clause-crowds g c = rw (c.in-Stats.is) tt
+
+-- what may be asked for
+pub returns-in-OpenRead-clause-asks : goal.returns-in-OpenRead-clause-asks
+returns-in-OpenRead-clause-asks g c = rw (c.in-OpenRead.is) (λ m s. subst (λ (infos : List TableInfo). g.W.Store.asks c.open_read.new.store ≤ g.W.Store.asks c.args.store.now + 2 * listing c.in-OpenRead.key infos) (sym s.over.infos) c.open_read.ensures.asks)
+
+pub returns-in-Read-clause-asks : goal.returns-in-Read-clause-asks
+returns-in-Read-clause-asks g c = rw (c.in-Read.is) c.read.ensures.asks
+
+pub returns-in-Read-clause-faults : goal.returns-in-Read-clause-faults
+returns-in-Read-clause-faults g c = c.read.ensures.faults

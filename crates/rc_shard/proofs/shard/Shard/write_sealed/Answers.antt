@@ -57,7 +57,7 @@ forget_all-requires g c =
     let cached = c.requires.stands.1.cached in
     let left = (keeps-then c.args.self.now.unstored.chains c.sealed_partitions.new.self.chains c.drop_sealed.new.self.chains (c.what_calls_leave_of_the_cache.ensures.before _ _ c.sealed_partitions.ensures.left)
     (c.what_calls_leave_of_the_cache.ensures.let_go c.args.self.now.folder.schema c.sealed_partitions.new.self c.drop_sealed.new.self.chains h.sealed h.later (subst DoAscend (sym c.sealed_partitions.ensures.keys.sealed) c.known.ensures) (c.sealed_partitions.ensures.stands c.args.self.now.folder.schema h.sealed h.later h.have) c.drop_sealed.ensures.let_go)).left in
-    record { are = left.entries c.args.self.now.cache.entries cached.are; one = left.one cached.one; used = left.used cached.used; untaken = left.untaken cached.untaken }
+    record { are = left.entries c.args.self.now.cache.entries cached.are; one = left.one cached.one; used = left.used cached.used }
 
 pub returns-in_err-parts-clause-err : goal.returns-in_err-parts-clause-err
 returns-in_err-parts-clause-err g c =

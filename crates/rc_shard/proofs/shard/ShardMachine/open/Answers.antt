@@ -1,10 +1,13 @@
 -- As it is opened it stands for the machine as that is opened, and its cache is empty.
-use Rattle.std.proofs.Common.{ℕ, List, [], sym, ap, ◌∙◌, arith}
+use Rattle.std.proofs.Common.{ℕ, List, [], sym, ap, subst, ◌∙◌, arith}
+use Rattle.std.specs.Prelude.{IsTrue}
+use Rattle.rc_schema.specs.SchemaValue.{SchemaValue, is_schema}
+use Rattle.rc_lookup.specs.Writes.{AreSmall}
 use Rattle.rc_memory.specs.laws.Places.{no_some}
 use Rattle.rc_lookup.specs.Found.{entry_number}
 use Rattle.rc_machine.specs.State.{opened_state}
 use Rattle.rc_shard.specs.Cached.{HaveCached}
-use Rattle.rc_shard.proofs.Standing.{no-bytes, no-chain, opened-for}
+use Rattle.rc_shard.proofs.Standing.{no-bytes, no-chain, no-snapshots, opened-for}
 use Rattle.rc_shard.proofs.shard.ShardMachine.open.Goals as goal
 
 pub returns-in-Ok-clause-stands : goal.returns-in-Ok-clause-stands
@@ -13,7 +16,11 @@ returns-in-Ok-clause-stands g c =
     let m = c.in-Ok.unstored.chains in
     let empty = c.in-Ok.ensures.empty.chains in
     let none = c.what_is_live_is_of_memtables.ensures.none m (λ id k there kind. no-chain m empty id k there) in
+    let limits = subst (λ (t : SchemaValue). IsTrue (is_schema t)) c.schema-schema.ensures c.cols-columns.ensures.limits in
+    let small = subst (λ (t : SchemaValue). AreSmall 131072 t) c.schema-schema.ensures (record { entry = (let a = c.largest_entry-entry.ensures.value in let b = c.largest_entry-entry.ensures.small in omega (arith, a, b)); statics = (let a = c.largest_static-statics.ensures.value in let b = c.largest_static-statics.ensures.small in omega (arith, a, b)) }) in
     let cached : HaveCached c.in_ok-folder.folder.schema c.new-cache.result.entries m (opened_state c.args.segments (g.W.Store.files c.args.store.now) c.args.schema t.0 c.in_ok-folder.folder.infos) = record {
+      limits = limits;
+      small = small;
       below = λ id. [];
       fit = λ id i d l. absurd (omega (arith, l));
       says = c.the_cache_says_what_lies_below.ensures.none c.in_ok-folder.folder.schema (λ id phase. []) m (λ id k there kind. no-chain m empty id k there);
@@ -21,11 +28,10 @@ returns-in-Ok-clause-stands g c =
       are = c.new-cache.ensures.entries m (λ id cached. no-chain m empty id cached.kept cached.there);
       one = none.0;
       used = none.1;
-      untaken = λ id k there kind. absurd (no-chain m empty id k there);
     } in (
       t.0,
       c.in_ok-folder.folder.infos,
       t.1,
       t.2,
-      opened-for _ _ _ c.in_ok-folder.folder c.in-Ok.unstored c.new-cache.result.entries _ c.args.segments c.args.schema t.0 c.in_ok-folder.ensures.schema c.open.ensures.store.0 t.1 t.2 c.in-Ok.ensures.none c.in-Ok.ensures.budget (no-bytes m empty) cached c.new.ensures.items,
+      opened-for _ _ _ c.in_ok-folder.folder c.in-Ok.unstored c.new-cache.result.entries _ c.args.segments c.args.schema t.0 c.in_ok-folder.ensures.schema c.open.ensures.store.0 t.1 t.2 c.in-Ok.ensures.none c.in-Ok.ensures.budget (no-bytes m empty) (no-snapshots m empty) cached c.new.ensures.items,
     )

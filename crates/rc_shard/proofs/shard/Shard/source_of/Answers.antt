@@ -1,24 +1,27 @@
 -- The cache knows the partition, or it is read.
-use Rattle.std.proofs.Common.{◌+◌, ◌*◌, ◌≤◌, None, refl, ap, ◌∙◌, subst}
+use Rattle.std.proofs.Common.{◌+◌, ◌*◌, ◌≤◌, Option, None, refl, ap, ◌∙◌, subst}
 use Rattle.std.specs.Prelude.{IfErr, IfOk, IfSome, IsSome, Ok}
 use Rattle.rc_tables.specs.Tables.{IsDamageOf, listing}
 use Rattle.rc_folder.specs.Tabled.{Tabled}
 use Rattle.rc_lookup.specs.Crowds.{loses-after}
 use Rattle.rc_lookup.specs.Losing.{loses-wider}
 use Rattle.rc_shard.specs.Knowing.{IsCachedWhole, IsPartitionRecent}
-use Rattle.rc_shard.specs.calls.Looking.{AreKnownStill, IsTabled}
+use Rattle.rc_chain.specs.declared.chains.Snap.{Snap}
+use Rattle.rc_shard.specs.Readers.{count_of}
+use Rattle.rc_shard.proofs.Standing.{taken-as}
+use Rattle.rc_shard.specs.calls.Looking.{AreKnownStill, IsCacheUsed, IsEntrySnapshot, snap_taken, source_taken}
 use Rattle.rc_shard.proofs.Known.{known-then, unless-weaker}
-use Rattle.rc_shard.proofs.Looking.{lost-within, no-count, none-some, on-ok, on-ok-weaker, used-then}
-use Rattle.rc_shard.proofs.shard.Shard.tables_of.Goals as goal
+use Rattle.rc_shard.proofs.Looking.{lost-within, no-count, none-some, on-ok, on-ok-weaker, rest-of, used-then}
+use Rattle.rc_shard.proofs.shard.Shard.source_of.Goals as goal
 
 pub read_tables-requires : goal.read_tables-requires
-read_tables-requires g c = (c.requires.0, c.look_up.ensures.keeps (g.W.Store.files c.args.store.now) c.requires.0 c.requires.1)
+read_tables-requires g c = (c.requires.0, taken-as (ap (λ r. count_of (snap_taken r)) (c.in-Ok-None.is ∙ ap Ok c.in-Ok-None.field-0-is)) (c.look_up.ensures.keeps (g.W.Store.files c.args.store.now) c.requires.0 c.requires.1))
 
 pub returns-in-Ok-Some-clause-says : goal.returns-in-Ok-Some-clause-says
-returns-in-Ok-Some-clause-says g c = λ m s. subst (λ r. IfOk r (λ o. IfSome o (IsTabled m c.args.key.now))) (c.in-Ok-Some.is ∙ ap Ok c.in-Ok-Some.field-0-is) (c.look_up.ensures.says (g.W.Store.files c.args.store.now) m s)
+returns-in-Ok-Some-clause-says g c = λ m s. subst (λ r. IfOk r (λ o. IfSome o (IsEntrySnapshot c.look_up.new.self c.args.key.now))) (c.in-Ok-Some.is ∙ ap Ok c.in-Ok-Some.field-0-is) (c.look_up.ensures.says (g.W.Store.files c.args.store.now) m s)
 
 pub returns-in-Ok-None-clause-says : goal.returns-in-Ok-None-clause-says
-returns-in-Ok-None-clause-says g c = λ m s. c.read_tables.ensures.says m (c.look_up.ensures.keeps (g.W.Store.files c.args.store.now) m s)
+returns-in-Ok-None-clause-says g c = λ m s. c.read_tables.ensures.says m (taken-as (ap (λ r. count_of (snap_taken r)) (c.in-Ok-None.is ∙ ap Ok c.in-Ok-None.field-0-is)) (c.look_up.ensures.keeps (g.W.Store.files c.args.store.now) m s))
 
 pub returns-in-Ok-None-clause-known : goal.returns-in-Ok-None-clause-known
 returns-in-Ok-None-clause-known g c = λ whole. absurd (none-some None refl (subst (λ r. IfOk r IsSome) (c.in-Ok-None.is ∙ ap Ok c.in-Ok-None.field-0-is) (c.look_up.ensures.known whole)))
@@ -31,19 +34,20 @@ returns-in-Ok-None-clause-whole g c =
     let old = c.args.self.now.unstored.chains in
     let mid = c.look_up.new.self.unstored.chains in
     let new = c.read_tables.new.self.unstored.chains in
-    on-ok-weaker c.read_tables.result _ _ (λ h none. h (lost-within old mid new new c.look_up.ensures.beside.rest.counts c.read_tables.ensures.beside.rest.counts (no-count new) none)) c.read_tables.ensures.whole
+    on-ok-weaker c.read_tables.result _ _ (λ h none. h (lost-within old mid new new (rest-of _ old mid c.look_up.ensures.beside.rest).counts (rest-of _ mid new c.read_tables.ensures.beside.rest).counts (no-count new) none)) c.read_tables.ensures.whole
 
 pub returns-in-Ok-Some-clause-keeps : goal.returns-in-Ok-Some-clause-keeps
-returns-in-Ok-Some-clause-keeps g c = λ m s. c.look_up.ensures.keeps (g.W.Store.files c.args.store.now) m s
+returns-in-Ok-Some-clause-keeps g c = λ m s. taken-as (ap (λ r. count_of (snap_taken r)) (c.in-Ok-Some.is ∙ ap Ok c.in-Ok-Some.field-0-is)) (c.look_up.ensures.keeps (g.W.Store.files c.args.store.now) m s)
 
 pub returns-in-Ok-None-clause-keeps : goal.returns-in-Ok-None-clause-keeps
-returns-in-Ok-None-clause-keeps g c = λ m s. c.read_tables.ensures.keeps m (c.look_up.ensures.keeps (g.W.Store.files c.args.store.now) m s)
+returns-in-Ok-None-clause-keeps g c = λ m s. c.read_tables.ensures.keeps m (taken-as (ap (λ r. count_of (snap_taken r)) (c.in-Ok-None.is ∙ ap Ok c.in-Ok-None.field-0-is)) (c.look_up.ensures.keeps (g.W.Store.files c.args.store.now) m s))
 
 pub returns-in-Err-clause-keeps : goal.returns-in-Err-clause-keeps
-returns-in-Err-clause-keeps g c = λ m s. c.look_up.ensures.keeps (g.W.Store.files c.args.store.now) m s
+returns-in-Err-clause-keeps g c = λ m s. taken-as (ap (λ r. count_of (snap_taken r)) c.in-Err.is) (c.look_up.ensures.keeps (g.W.Store.files c.args.store.now) m s)
 
 pub returns-in-Ok-None-clause-beside : goal.returns-in-Ok-None-clause-beside
-returns-in-Ok-None-clause-beside g c = used-then c.args.self.now c.look_up.new.self c.read_tables.new.self c.look_up.ensures.beside c.read_tables.ensures.beside
+returns-in-Ok-None-clause-beside g c = used-then (source_taken c.read_tables.result) c.args.self.now c.look_up.new.self c.read_tables.new.self
+    (subst (λ (taken : Option Snap). IsCacheUsed taken c.args.self.now c.look_up.new.self) (ap snap_taken (c.in-Ok-None.is ∙ ap Ok c.in-Ok-None.field-0-is)) c.look_up.ensures.beside) c.read_tables.ensures.beside
 
 pub returns-in-Ok-None-clause-damaged : goal.returns-in-Ok-None-clause-damaged
 returns-in-Ok-None-clause-damaged g c = subst (λ (f : Tabled). IfErr c.read_tables.result (IsDamageOf f.schema c.args.key.now f.infos)) c.look_up.ensures.beside.folder c.read_tables.ensures.damaged
@@ -60,7 +64,7 @@ returns-in-Ok-None-clause-stays g c =
     let mid = c.look_up.new.self.unstored.chains in
     let new = c.read_tables.new.self.unstored.chains in
     unless-weaker c.read_tables.result (AreKnownStill c.look_up.new.self c.read_tables.new.self) (AreKnownStill c.args.self.now c.read_tables.new.self)
-    (λ h none q. known-then c.args.self.now c.look_up.new.self c.read_tables.new.self q (c.look_up.ensures.stays q) (h (lost-within old mid new new c.look_up.ensures.beside.rest.counts c.read_tables.ensures.beside.rest.counts (no-count new) none) q)) c.read_tables.ensures.stays
+    (λ h none q. known-then c.args.self.now c.look_up.new.self c.read_tables.new.self q (c.look_up.ensures.stays q) (h (lost-within old mid new new (rest-of _ old mid c.look_up.ensures.beside.rest).counts (rest-of _ mid new c.read_tables.ensures.beside.rest).counts (no-count new) none) q)) c.read_tables.ensures.stays
 
 pub returns-in-Ok-Some-clause-hit : goal.returns-in-Ok-Some-clause-hit
 returns-in-Ok-Some-clause-hit g c = λ whole. subst (λ r. IfOk r (λ o. IfSome o (λ _. IsPartitionRecent c.args.key.now c.args.self.now c.look_up.new.self))) (c.in-Ok-Some.is ∙ ap Ok c.in-Ok-Some.field-0-is) c.look_up.ensures.hit
@@ -76,3 +80,9 @@ returns-in-Ok-None-clause-loses g c = loses-after 131072 1 c.args.self.now.unsto
 
 pub returns-in-Err-clause-loses : goal.returns-in-Err-clause-loses
 returns-in-Err-clause-loses g c = loses-wider 131072 1 c.args.self.now.unstored.chains c.look_up.new.self.unstored.chains c.look_up.ensures.loses
+
+pub returns-in-Ok-Some-clause-beside : goal.returns-in-Ok-Some-clause-beside
+returns-in-Ok-Some-clause-beside g c = subst (λ (taken : Option Snap). IsCacheUsed taken c.args.self.now c.look_up.new.self) (ap snap_taken (c.in-Ok-Some.is ∙ ap Ok c.in-Ok-Some.field-0-is)) c.look_up.ensures.beside
+
+pub returns-in-Err-clause-beside : goal.returns-in-Err-clause-beside
+returns-in-Err-clause-beside g c = subst (λ (taken : Option Snap). IsCacheUsed taken c.args.self.now c.look_up.new.self) (ap snap_taken c.in-Err.is) c.look_up.ensures.beside
