@@ -9,8 +9,7 @@ use Rattle.rc_lookup.specs.Held.{IsHeldOf}
 use Rattle.rc_lookup.specs.Rest.{LeavesBut, LeavesRest}
 use Rattle.rc_lookup.specs.Staying.{IsEntryStill}
 use Rattle.rc_lookup.specs.calls.Entering.{IsHeldWhole}
-use Rattle.rc_lookup.proofs.Fills.{between}
-use Rattle.rc_lookup.proofs.Gathered.{on-also}
+use Rattle.rc_lookup.proofs.Fills.{between, on-also}
 use Rattle.rc_lookup.proofs.Holding.{if-held, match-also, on-failed, rest-lost}
 use Rattle.rc_lookup.specs.laws.Rest.{but-after, rest-then}
 use Rattle.rc_lookup.specs.laws.Staying.{entry-then}
