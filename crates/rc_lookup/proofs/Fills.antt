@@ -103,3 +103,9 @@ module _ {P H : Type 0} (fi : OfFiller P H) where
     stands = λ writes d s. (let e = a.stands writes d s in (stands writes e.0 e.1.0, e.1.1));
     written = a.written.1;
   }
+
+-- ---- what was answered
+
+pub on-also : {T : Type 0} (A B : Type 0) (r : Result T AllocError) → OnOk r A → (A → B) → OnOk r B
+on-also A B (Ok x) a f = f a
+on-also A B (Err e) a f = tt

@@ -1,39 +1,33 @@
 -- What is left where a snapshot was taken and taken back.
 use Rattle.std.proofs.Common.{inl, inr, ◌≡◌, ◌≢◌, ◌⊎◌, ℕ, zero, suc, List, [], ◌∷◌, Option, Some, None, IsSome, refl, sym, ap, ◌∙◌, subst, slice_index_or, arith}
 use Rattle.std.specs.Option.{option_map}
-use Rattle.std.specs.Prelude.{Contains, Err, IfNone, IfOk, IfSome, IsSomeAnd, Ok, Result, length, take}
-use Rattle.std.specs.declared.alloc.AllocError.{AllocError}
+use Rattle.std.specs.Prelude.{Contains, IfSome, IsSomeAnd, length, take}
 use Rattle.lsa_region.specs.Region.{SameObjects, View}
 use Rattle.rc_core.specs.declared.entries.ChainKind.TheVariants.{Cache, Memtable}
 use Rattle.rc_position.specs.Position.{Head}
 use Rattle.rc_mutation.specs.declared.mutations.Mutation.{Mutation}
-use Rattle.rc_mutation.specs.declared.fragments.Head.{Head as HeadOf}
-use Rattle.rc_mutation.specs.Fragments.{fragments}
-use Rattle.rc_mutation.specs.Source.{IsMutation, SameSource, source_at_head, source_at_static}
-use Rattle.rc_core.specs.Chains.{at_place, phase_at}
+use Rattle.rc_mutation.specs.Source.{SameSource}
+use Rattle.rc_core.specs.Chains.{at_place}
 use Rattle.rc_core.specs.Steps.{MayPopulate, free_number, pin_at}
 use Rattle.rc_core.specs.laws.Pins.{pin-freed, pin-is-pinned, pin-kept, pin-others, pin-was-free, pinned-by-number}
 use Rattle.rc_memory.specs.Changes.{member_at}
-use Rattle.rc_memory.specs.Memory.{HasChain, HasPin, IsSnapshotTaken, KeptChain, Memory, chain_at, on_chain, snapshot_number, with_dropped, with_snapshot, without_snapshot}
+use Rattle.rc_memory.specs.Memory.{HasPin, IsSnapshotTaken, KeptChain, Memory, chain_at, on_chain, snapshot_number, with_dropped, with_snapshot, without_snapshot}
 use Rattle.rc_memory.specs.laws.Places.{same_some}
 use Rattle.rc_memory.specs.laws.Put.{put-at, put-beside}
 use Rattle.rc_chain.specs.declared.chains.Snap.{Snap}
 use Rattle.rc_cached.specs.Lives.{IsIdle}
 use Rattle.rc_cached.specs.Filling.{MayFill}
-use Rattle.rc_stream.specs.Stream.{Stream, stream_of}
 use Rattle.rc_cached.specs.Opening.{some-and}
 use Rattle.rc_cursor.specs.Snapshots.{kind_in, kind_seen, versions_in, versions_seen, versions_upto}
-use Rattle.rc_row_cache.specs.Found.{entry_number}
 use Rattle.rc_cached.specs.Stands.{HasCacheSnapshot}
 use Rattle.rc_snapshots.specs.Seeing.{StillSees}
-use Rattle.rc_row_cache.specs.Saying.{Below, phase_pinned}
 use Rattle.rc_core.specs.Version.{Version}
 use Rattle.rc_row_cache.specs.Footprint.{AreInUse}
 use Rattle.rc_lookup.specs.Known.{IsChainKnown, IsPartitionKnown}
 use Rattle.rc_lookup.specs.calls.Known.{IsSnapKnown}
-use Rattle.rc_lookup.specs.Looked.{IsPartitionFound, IsLookedUp, IsStill, IsStreamSaying, IsUnread}
+use Rattle.rc_lookup.specs.Looked.{IsStill, IsUnread}
 use Rattle.rc_lookup.specs.Staying.{IsStillThere}
-use Rattle.rc_lookup.specs.calls.Reading.{IsHeadSaid, without_snap}
+use Rattle.rc_lookup.specs.calls.Reading.{IsLookedUp, without_snap}
 
 -- ---- lists and answers
 
@@ -46,12 +40,6 @@ same-number m n e = cc
 
 pub none-there : (n : ℕ) → None ≡ Some n → ⊥
 none-there n e = cc
-
--- what cannot be none is some
-pub is-some : (P : Type 0) (r : Result (Option Stream) AllocError) → IfOk r (λ o. IfNone o (P → ⊥)) → P → IfOk r IsSome
-is-some P (Ok None) h p = absurd (h p)
-is-some P (Ok (Some t)) h p = refl
-is-some P (Err e) h p = tt
 
 -- ---- the chain of a number, and those of others
 
@@ -148,24 +136,6 @@ module _ (s : Snap) (old mid : Memory) (taken : IsSnapshotTaken old mid s.chain 
       (λ same. (passed_by s.pin k, ap (chain_at new) same ∙ here k (sym (ap (chain_at old) same) ∙ e), record { kind = refl; attached = refl; versions = refl }))
       (λ ne. (k, beside id ne ∙ e, record { kind = refl; attached = refl; versions = refl }))
 
-  -- its chain, of which it pins the newest version
-  pub found : (key : List ℕ) (entries : List (List ℕ × ℕ)) (below : Below) (t : Stream) → entry_number entries key ≡ Some s.chain → MayFill mid s.chain s.pin → IsStreamSaying (below s.chain (phase_pinned h)) t → IsPartitionFound key entries below old t
-  found key entries below t entry may says =
-      let k = was (chain_at old s.chain) refl in
-      let same : h.chain.chain.versions ≡ k.0.chain.versions = ap (λ (q : KeptChain). q.chain.versions) (same_some h.chain (with_snapshot (snapshot_number k.0.chain) k.0) (sym h.there ∙ mid-here ∙ ap (option_map (λ (q : KeptChain). with_snapshot (snapshot_number q.chain) q)) k.1)) in
-      let fills : MayPopulate (at_place Head h.chain.chain) h.number =
-      subst (λ (o : Option ℕ). IsSomeAnd o (MayPopulate (at_place Head h.chain.chain))) h.pinned (subst (λ (o : Option KeptChain). IsSomeAnd o (λ q. IsSomeAnd (pin_at q.chain.pins s.pin) (MayPopulate (at_place Head q.chain)))) h.there may) in
-      record {
-        chain = s.chain;
-        kept = k.0;
-        newest = h.number;
-        entry = entry;
-        there = k.1;
-        cached = k.2;
-        last = fills.newest ∙ ap length same;
-        says = subst (λ vs. IsStreamSaying (below s.chain (phase_at vs h.number)) t) same says;
-      }
-
   -- where all is known to the chain it is to the snapshot, which pins the newest version
   pub snap-known : MayFill mid s.chain s.pin → IsChainKnown old s.chain → IsSnapKnown mid s
   snap-known may whole =
@@ -178,19 +148,6 @@ module _ (s : Snap) (old mid : Memory) (taken : IsSnapshotTaken old mid s.chain 
       let kind : kind_seen mid s ≡ k.0.chain.kind = ap kind_in h.there ∙ ap (λ (q : KeptChain). q.chain.kind) here in
       let all : IsPartitionKnown k.0.chain.kind k.0.chain.versions = subst (λ (o : Option KeptChain). IsSomeAnd o (λ q. IsPartitionKnown q.chain.kind q.chain.versions)) k.1 whole in
       subst (λ q. IsPartitionKnown q (versions_seen mid s)) (sym kind) (subst (IsPartitionKnown k.0.chain.kind) (sym versions) all)
-
-  -- and where all is known to the snapshot it is to the chain, once that is taken back
-  pub chain-known : MayFill mid s.chain s.pin → IsSnapKnown mid s → IsChainKnown new s.chain
-  chain-known may whole =
-      let k = was (chain_at old s.chain) refl in
-      let now : h.chain ≡ with_snapshot (snapshot_number k.0.chain) k.0 = same_some h.chain (with_snapshot (snapshot_number k.0.chain) k.0) (sym h.there ∙ mid-here ∙ ap (option_map (λ (q : KeptChain). with_snapshot (snapshot_number q.chain) q)) k.1) in
-      let fills : MayPopulate (at_place Head h.chain.chain) h.number =
-      subst (λ (o : Option ℕ). IsSomeAnd o (MayPopulate (at_place Head h.chain.chain))) h.pinned (subst (λ (o : Option KeptChain). IsSomeAnd o (λ q. IsSomeAnd (pin_at q.chain.pins s.pin) (MayPopulate (at_place Head q.chain)))) h.there may) in
-      let versions : versions_seen mid s ≡ k.0.chain.versions =
-      ap (λ o. versions_in o s.pin) h.there ∙ ap (versions_upto h.chain.chain.versions) h.pinned ∙ ap (λ n. take n h.chain.chain.versions) fills.newest ∙ take-all h.chain.chain.versions ∙ ap (λ (q : KeptChain). q.chain.versions) now in
-      let kind : kind_seen mid s ≡ k.0.chain.kind = ap kind_in h.there ∙ ap (λ (q : KeptChain). q.chain.kind) now in
-      let all : IsPartitionKnown k.0.chain.kind k.0.chain.versions = subst (λ q. IsPartitionKnown q k.0.chain.versions) kind (subst (IsPartitionKnown (kind_seen mid s)) versions whole) in
-      subst (λ (o : Option KeptChain). IsSomeAnd o (λ q. IsPartitionKnown q.chain.kind q.chain.versions)) (sym (here k.0 k.1)) all
 
   -- its chain is to be dropped only if it was before
   was-idle : (id : ℕ) (n : KeptChain) → chain_at new id ≡ Some n → IsIdle new id n.chain → (k : KeptChain) × (chain_at old id ≡ Some k) × IsIdle old id k.chain
@@ -242,36 +199,6 @@ told-still old now a = record { region = a.region; counts = a.counts; memtables 
 pub told-looked : (old now : Memory) → IsLookedUp (with_dropped [] old) now → IsLookedUp old now
 told-looked old now a = record { still = told-still old now a.still; snapshots = record { alike = λ s on. (let x = a.snapshots.alike s on in record { pin = x.pin; versions = x.versions; kind = x.kind }); none_more = a.snapshots.none_more } }
 
-pub told-found : (key : List ℕ) (entries : List (List ℕ × ℕ)) (below : Below) (old : Memory) (t : Stream) → IsPartitionFound key entries below (with_dropped [] old) t → IsPartitionFound key entries below old t
-told-found key entries below old t a = record { chain = a.chain; kept = a.kept; newest = a.newest; entry = a.entry; there = a.there; cached = a.cached; last = a.last; says = a.says }
-
--- what holds of each stream that may be found
-pub if-found : (P Q : Stream → Type 0) (r : Result (Option Stream) AllocError) → ((t : Stream) → P t → Q t) → IfOk r (λ o. IfSome o P) → IfOk r (λ o. IfSome o Q)
-if-found P Q (Ok None) f h = tt
-if-found P Q (Ok (Some t)) f h = f t h
-if-found P Q (Err e) f h = tt
-
--- what holds anyway holds where one is found
-pub where-found : (P : Type 0) (r : Result (Option Stream) AllocError) → P → IfOk r (λ o. IfSome o (λ t. P))
-where-found P (Ok None) h = tt
-where-found P (Ok (Some t)) h = h
-where-found P (Err e) h = tt
-
--- what holds of it for each mutation that says what writes say
-pub all-found : (writes : List Mutation) (r : Result (Option Stream) AllocError) → ((said : Mutation) → IsMutation said → SameSource (said ∷ []) writes → IfOk r (λ o. IfSome o (λ t. t ≡ stream_of (fragments said)))) → IfOk r (λ o. IfSome o (IsStreamSaying writes))
-all-found writes (Ok None) f = tt
-all-found writes (Ok (Some t)) f = f
-all-found writes (Err e) f = tt
-
--- what is left behind a head that writes say is the stream of such a mutation
-pub said-stream : (head : HeadOf) (writes : List Mutation) (said : Mutation) → (stream_of (fragments said)).head.pt ≡ source_at_head (said ∷ []) → (stream_of (fragments said)).head.statics ≡ source_at_static (said ∷ []) → SameSource (said ∷ []) writes → IsHeadSaid writes head →
-    (r : Result (Option Stream) AllocError) → IfOk r (λ o. IfSome o (λ t. t ≡ record { head = head; tomb = None; left = (stream_of (fragments said)).left })) → IfOk r (λ o. IfSome o (λ t. t ≡ stream_of (fragments said)))
-said-stream head writes said pt statics same has r h =
-    let a : head.pt ≡ (stream_of (fragments said)).head.pt = sym has.pt ∙ sym same.head ∙ sym pt in
-    let b : head.statics ≡ (stream_of (fragments said)).head.statics = sym has.statics ∙ sym same.statics ∙ sym statics in
-    if-found (λ t. t ≡ record { head = head; tomb = None; left = (stream_of (fragments said)).left }) (λ t. t ≡ stream_of (fragments said)) r
-    (λ t e. e ∙ (λ i. record { head = record { pt = a i; statics = b i }; tomb = None; left = (stream_of (fragments said)).left })) h
-
 -- a snapshot of a cache chain is one
 pub has-pin : (m : Memory) (id pin : ℕ) → HasCacheSnapshot m id pin → HasPin m id pin
 has-pin m id pin h = subst (PinIn pin) (sym h.there) (subst (λ (o : Option ℕ). IsSome o) (sym h.pinned) refl)
@@ -281,7 +208,3 @@ same-source writes = record { head = refl; statics = refl; clustered = λ x. ref
 
 pub looked-none : (old : Memory) → IsLookedUp old old
 looked-none old = record { still = record { region = unchanged old.region; counts = refl; memtables = λ id k e kind. e }; snapshots = record { alike = λ s on. record { pin = on; versions = refl; kind = refl }; none_more = λ s on. on } }
-
--- its chain is there still, once it is taken back
-pub still-there : (s : Snap) (m : Memory) → HasCacheSnapshot m s.chain s.pin → HasChain (without_snap s m) s.chain
-still-there s m h = subst (λ (o : Option KeptChain). IsSome o) (sym (at-here m (without_snap s m) s.chain (without_snapshot s.pin) refl ∙ ap (option_map (without_snapshot s.pin)) h.there)) refl

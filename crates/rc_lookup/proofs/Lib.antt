@@ -1,6 +1,5 @@
 mod Orders
 mod Over
-mod Gathered
 mod Kept
 mod Fills
 mod Said

@@ -6,8 +6,9 @@ use Rattle.std.specs.declared.cmp.Ordering.TheVariants.{Less, Equal, Greater}
 use Rattle.std.specs.Ordering.{is_gt, is_le, is_lt, ordering_reverse}
 use Rattle.rc_position.specs.declared.positions.Pos.{Pos}
 use Rattle.rc_position.specs.Position.{IsBefore, pos_cmp}
-use Rattle.rc_position.specs.laws.Bounds.{first_pos-least}
+use Rattle.rc_position.specs.laws.Bounds.{first_pos-least, last_pos-greatest}
 use Rattle.rc_position.specs.laws.Orders.{pos_cmp_total, pos_cmp_same}
+use Rattle.rc_core.specs.Version.{end_position}
 use Rattle.rc_stream.specs.Places.{Reaches}
 use Rattle.rc_stream.specs.laws.Ordered.{passes-itself}
 use Rattle.rc_stream.specs.laws.Says.{le_le}
@@ -70,3 +71,12 @@ from-first Greater h = absurd (cc)
 
 pub first-reaches : (x : Pos) → Reaches first_position x
 first-reaches x = from-first (pos_cmp first_position x) (first_pos-least x)
+
+-- each position stands before the end of all, or is it
+not-behind : (r : Ordering) → is_gt r ≡ false → is_le r ≡ true
+not-behind Less h = refl
+not-behind Equal h = refl
+not-behind Greater h = absurd (cc)
+
+pub reaches-end : (x : Pos) → Reaches x end_position
+reaches-end x = not-behind (pos_cmp x end_position) (last_pos-greatest x)

@@ -1,17 +1,15 @@
 -- What stays where the recency list has its members in another order.
-use Rattle.std.proofs.Common.{◌≡◌, ℕ, Bool, true, false, cond, List, [], ◌∷◌, ◌++◌, Option, Some, None, inl, inr, refl, sym, ap, ◌∙◌, subst, ne_eqb, length, arith}
-use Rattle.std.specs.Prelude.{Contains, Err, IfNone, IfOk, Ok, OnErr, Result, filter, not}
-use Rattle.std.specs.declared.alloc.AllocError.{AllocError}
+use Rattle.std.proofs.Common.{◌≡◌, ℕ, Bool, true, false, cond, List, [], ◌∷◌, ◌++◌, Some, inl, inr, refl, sym, ap, ◌∙◌, subst, ne_eqb, length, arith}
+use Rattle.std.specs.Prelude.{Contains, filter, not}
 use Rattle.std.proofs.lemmas.List.Elements.{Contains-append_right}
 use Rattle.lsa_path.specs.laws.Steps.{objects-trans}
 use Rattle.rc_memory.specs.Changes.{member_at}
 use Rattle.rc_memory.specs.Lists.{elem-cases, elem-first, elem-later, elem-left, elem-none}
 use Rattle.rc_memory.specs.Memory.{HasPin, Member, Memory, chain_at}
 use Rattle.rc_row_cache.specs.Entries.{AreEntries}
-use Rattle.rc_stream.specs.Stream.{Stream}
 use Rattle.rc_snapshots.specs.Seeing.{StillSees}
 use Rattle.rc_row_cache.specs.Footprint.{HaveOneVersion, cache_snapshots, memtable_bytes}
-use Rattle.rc_lookup.specs.Looked.{IsLookedUp, IsStill, IsUnread}
+use Rattle.rc_lookup.specs.Looked.{IsStill, IsUnread}
 use Rattle.rc_lookup.specs.Rest.{LeavesRest}
 use Rattle.rc_lookup.specs.Touched.{IsMadeRecent, is_beside}
 use Rattle.rc_lookup.specs.calls.Touched.{IsChainTouched, IsReordered}
@@ -78,16 +76,6 @@ module _ (old new : Memory) (r : IsReordered old new) where
     memtables = λ id k e kind. subst (λ (m : Memory). chain_at m id ≡ Some k) (sym r.same) (l.memtables id k e kind);
   }
 
-  -- what is looked up
-  pub looked-reordered : (before : Memory) → IsLookedUp before old → IsLookedUp before new
-  looked-reordered before l = record {
-    still = still-moved before l.still;
-    snapshots = record {
-      alike = λ s on. (let x = l.snapshots.alike s on in subst (StillSees s before) (sym r.same) (record { pin = x.pin; versions = x.versions; kind = x.kind }));
-      none_more = λ s on. l.snapshots.none_more s (subst (λ (m : Memory). HasPin m s.chain s.pin) r.same on);
-    };
-  }
-
   -- the entries
   pub entries-reordered : (entries : List (List ℕ × ℕ)) → AreEntries entries old → AreEntries entries new
   entries-reordered entries a = subst (AreEntries entries) (sym r.same) (record {
@@ -102,12 +90,3 @@ module _ (old new : Memory) (r : IsReordered old new) where
 -- the list and the region are as they were
 pub none-unread : (before old : Memory) (now : Memory) → IsUnread before old → now ≡ old → IsUnread before now
 none-unread before old now u e = record { region = ap (λ (m : Memory). m.region) e ∙ u.region; recency = ap (λ (m : Memory). m.recency) e ∙ u.recency }
-
-pub if-missed : (P Q : Type 0) (r : Result (Option Stream) AllocError) → (P → Q) → IfOk r (λ o. IfNone o P) → IfOk r (λ o. IfNone o Q)
-if-missed P Q (Ok None) f h = f h
-if-missed P Q (Ok (Some t)) f h = tt
-if-missed P Q (Err e) f h = tt
-
-pub if-err : (P Q : Type 0) (r : Result (Option Stream) AllocError) → (P → Q) → OnErr r P → OnErr r Q
-if-err P Q (Ok o) f h = tt
-if-err P Q (Err e) f h = f h

@@ -13,10 +13,10 @@ use Rattle.rc_snapshots.specs.Seeing.{NothingIsLost}
 use Rattle.rc_snapshots.specs.laws.Seeing.{all-see}
 use Rattle.rc_row_cache.specs.Footprint.{AreInUse, HaveOneVersion, cache_snapshots, memtable_bytes}
 use Rattle.rc_lookup.specs.Rest.{LeavesRest}
-use Rattle.rc_lookup.specs.Looked.{IsLookedUp}
 use Rattle.rc_lookup.specs.laws.Rest.{rest-none}
 use Rattle.rc_lookup.proofs.Kept.{here-or-beside}
 use Rattle.rc_lookup.proofs.Numbered.{changed-beside, changed-was, there-or-not}
+use Rattle.rc_lookup.specs.calls.Reading.{IsLookedUp}
 
 -- ---- snapshots
 

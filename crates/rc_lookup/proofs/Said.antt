@@ -28,7 +28,7 @@ use Rattle.rc_stream.specs.laws.Ordered.{itself}
 use Rattle.rc_cacheread.specs.Reading.{AreRowsApart, AreWritten, Reads, StandFrom, behind_row, row_of_these, said_at}
 use Rattle.rc_snapshots.specs.Streams.{first_position}
 use Rattle.rc_lookup.specs.calls.Filling.{NoEmptyRows, SaysAll, SaysNone, past}
-use Rattle.rc_lookup.proofs.Gathered.{reaches-end}
+use Rattle.rc_lookup.proofs.Orders.{reaches-end}
 use Rattle.rc_lookup.proofs.Orders.{before-reach, before-reaches, reach-itself, reach-through}
 
 -- ---- by where fragments stand

@@ -4,5 +4,4 @@ pub mod Entering
 pub mod Filling
 pub mod Reading
 pub mod Recent
-pub mod Words
 pub mod Touched

@@ -2,7 +2,6 @@
 #![tactic(auto)]
 
 mod filling;
-mod gathering;
 mod keeping;
 mod knowing;
 mod looking;
@@ -11,8 +10,8 @@ mod populating;
 mod touching;
 
 pub use keeping::keep_recent;
-pub use looking::{lookup, take_known};
-pub use populating::{populate, take_populated};
+pub use looking::take_known;
+pub use populating::take_populated;
 pub use rc_row_cache::{
     Chains, RowCache, Snap, Unstored, entries_laws, evict_laws, footprint, laws as row_cache_laws,
     snapshots_laws, unstored_laws,

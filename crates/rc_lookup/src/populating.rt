@@ -1,5 +1,5 @@
 //! What was read of a partition is put into the row cache, whole.
-ghost use Rattle.std.specs.Prelude.{◌≡◌, ◌*◌, ◌/◌, ◌≤◌, ◌∷◌, ℕ, [], None, Some, List as Sequence, All, Contains, IfNone, IfOk, IfSome, IsSome, IsSomeAnd, IsTrue, MatchOption, OnErr, OnOk};
+ghost use Rattle.std.specs.Prelude.{◌≡◌, ◌*◌, ◌/◌, ◌≤◌, ◌∷◌, ℕ, [], None, Some, List as Sequence, All, IfNone, IfOk, IfSome, IsSome, IsSomeAnd, IsTrue, MatchOption, OnErr, OnOk};
 ghost use Rattle.rc_schema.specs.SchemaValue.{SchemaValue, is_schema};
 ghost use Rattle.rc_mutation.specs.declared.mutations.Mutation.{Mutation as Change};
 ghost use Rattle.rc_mutation.specs.Source.{SameSource};
@@ -232,36 +232,7 @@ fn enter_read<const S: usize>(
     }
 }
 
-// Puts what was read of a partition into the row cache, in place of what it has of it, and gives the snapshot through which it was filled. The only error is want of memory.
-fn hold_populated<const S: usize>(
-    alloc: Global,
-    cache: &mut RowCache,
-    chains: &mut Chains<S>,
-    key: &PartKey,
-    read: &Mutation,
-) -> Result<Option<Snap>, AllocError>
-    requires entries { AreEntries cache.old.entries chains.old }
-    requires roomy { 8952 ≤ 7 * S / 8 }
-    requires over { (schema : SchemaValue) × (below : Below) × IsCacheOver S schema below chains.old × ChangeFits schema read.now }
-    ensures taken { IfOk result (λ o. IfSome o (IsHeldOf key.now cache.new.entries chains.old chains.new)) }
-    ensures apart { IfOk result (λ o. IfSome o (λ s. (pin : ℕ) → HasCacheSnapshot chains.old s.chain pin → ⊥)) }
-    ensures apart_err { OnErr result ((id pin : ℕ) → entry_number cache.new.entries key.now ≡ Some id → HasCacheSnapshot chains.old id pin → ⊥) }
-    ensures absent { IfOk result (λ o. IfNone o (entry_number cache.new.entries key.now ≡ None)) }
-    ensures whole { IfOk result (λ o. MatchOption o (NoneLost (losses chains.old) (losses chains.new) → ⊥) (λ s. NoneLost (losses chains.old) (losses chains.new) → IsHeldWhole chains.new s)) }
-    ensures loses { LosesWhereCrowded S 1 chains.old chains.new }
-    ensures rest { IfOk result (λ o. MatchOption o (LeavesRest chains.old chains.new) (λ s. LeavesBut s chains.old chains.new)) }
-    ensures rest_err { OnErr result (LeavesRest chains.old chains.new) }
-    ensures says { (schema : SchemaValue) (below : Below) (writes : Sequence Change) → IsCacheOver S schema below chains.old → All (ChangeFits schema) writes → SameSource (read.now ∷ []) writes →
-        CacheSays schema (below_entry (entry_number cache.new.entries key.now) (λ _. writes) below) chains.new }
-    ensures entries { AreEntries cache.new.entries chains.new }
-    ensures others { (q : Sequence ℕ) (id : ℕ) → entry_number cache.new.entries q ≡ Some id → (q ≡ key.now → ⊥) → entry_number cache.old.entries q ≡ Some id }
-    ensures stays { OnOk result (NoneLost (losses chains.old) (losses chains.new) → (q : Sequence ℕ) → (q ≡ key.now → ⊥) → IsEntryStill q cache.old.entries chains.old cache.new.entries chains.new) }
-{
-    forget_entry(cache, chains, key);
-    enter_read(alloc, cache, chains, key, read)
-}
-
-/// Puts what was read of a partition into the row cache, in place of what it has of it, as `populate`, and gives a snapshot of its new chain; none where no room could be made for its entry. The only error is want of memory: then no snapshot is taken, and the cache has some of it, or nothing.
+/// Puts what was read of a partition into the row cache, in place of what it has of it: in a new entry, for which and for each part of which room is made by moves and evictions; what finds no room is left out. Gives a snapshot of its new chain, the one through which that was filled; none where no room could be made for its entry. All else that it has stays, where nothing is lost; and what is lost is lost in a crowded region: one version is made at most. The only error is want of memory: then no snapshot is taken, and the cache has some of it, or nothing.
 pub fn take_populated<const S: usize>(
     alloc: Global,
     cache: &mut RowCache,
@@ -286,36 +257,6 @@ pub fn take_populated<const S: usize>(
     ensures others { (q : Sequence ℕ) (id : ℕ) → entry_number cache.new.entries q ≡ Some id → (q ≡ key.now → ⊥) → entry_number cache.old.entries q ≡ Some id }
     ensures stays { OnOk result (NoneLost (losses chains.old) (losses chains.new) → (q : Sequence ℕ) → (q ≡ key.now → ⊥) → IsEntryStill q cache.old.entries chains.old cache.new.entries chains.new) }
 {
-    hold_populated(alloc, cache, chains, key, read)
-}
-
-/// Puts what was read of a partition into the row cache, in place of what it has of it: in a new entry, for which and for each part of which room is made by moves and evictions; what finds no room is left out. All else that it has stays, where nothing is lost; and what is lost is lost in a crowded region: one version is made at most. No snapshot of the cache is taken that was not. The only error is want of memory: then the cache has some of it, or nothing.
-pub fn populate<const S: usize>(
-    alloc: Global,
-    cache: &mut RowCache,
-    chains: &mut Chains<S>,
-    key: &PartKey,
-    read: &Mutation,
-) -> Result<(), AllocError>
-    requires entries { AreEntries cache.old.entries chains.old }
-    requires roomy { 8952 ≤ 7 * S / 8 }
-    requires over { (schema : SchemaValue) × (below : Below) × IsCacheOver S schema below chains.old × ChangeFits schema read.now }
-    ensures known { OnOk result (NoneLost (losses chains.old) (losses chains.new) → IsSomeAnd (entry_number cache.new.entries key.now) (IsChainKnown chains.new)) }
-    ensures loses { LosesWhereCrowded S 1 chains.old chains.new }
-    ensures rest { LeavesRest chains.old chains.new }
-    ensures says { (schema : SchemaValue) (below : Below) (writes : Sequence Change) → IsCacheOver S schema below chains.old → All (ChangeFits schema) writes → SameSource (read.now ∷ []) writes →
-        CacheSays schema (below_entry (entry_number cache.new.entries key.now) (λ _. writes) below) chains.new }
-    ensures entries { AreEntries cache.new.entries chains.new }
-    ensures others { (q : Sequence ℕ) (id : ℕ) → entry_number cache.new.entries q ≡ Some id → (q ≡ key.now → ⊥) → entry_number cache.old.entries q ≡ Some id }
-    ensures stays { OnOk result (NoneLost (losses chains.old) (losses chains.new) → (q : Sequence ℕ) → (q ≡ key.now → ⊥) → IsEntryStill q cache.old.entries chains.old cache.new.entries chains.new) }
-{
-    what_leaves_the_caches_chains_leaves_the_entries();
-    match hold_populated(alloc, cache, chains, key, read) {
-        Ok(Some(snap)) => {
-            give_up(chains, snap);
-            Ok(())
-        }
-        Ok(None) => Ok(()),
-        Err(error) => Err(error),
-    }
+    forget_entry(cache, chains, key);
+    enter_read(alloc, cache, chains, key, read)
 }

@@ -7,7 +7,7 @@ use Rattle.rc_stream.specs.Snapshot.{EndsPart, IsPartFrom, place_behind}
 use Rattle.rc_cursor.specs.Snapshots.{Knows}
 use Rattle.rc_cacheread.specs.Passing.{IsKnownOver}
 use Rattle.rc_snapshots.specs.Streams.{first_position}
-use Rattle.rc_lookup.proofs.Gathered.{reaches-end}
+use Rattle.rc_lookup.proofs.Orders.{reaches-end}
 use Rattle.rc_lookup.proofs.Over.{never-missing, over-part, rest-part}
 use Rattle.rc_lookup.proofs.knowing.pass_known.Goals as goal
 

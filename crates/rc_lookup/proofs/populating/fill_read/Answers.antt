@@ -16,7 +16,7 @@ use Rattle.rc_snapshots.specs.Streams.{first_position}
 use Rattle.rc_row_cache.specs.Crowds.{loses-nothing}
 use Rattle.rc_lookup.specs.calls.Filling.{FragmentsFit, NoEmptyRows, SaysAll}
 use Rattle.rc_lookup.proofs.Limits.{all-fit}
-use Rattle.rc_lookup.proofs.Gathered.{on-also}
+use Rattle.rc_lookup.proofs.Fills.{on-also}
 use Rattle.rc_lookup.proofs.Said.{all-written, says-all}
 use Rattle.rc_lookup.proofs.Turns.{FillLaws, IsFillerOf, at-filler, at-snapshot, filled-through, still-filler}
 use Rattle.rc_lookup.proofs.populating.fill_read.Goals as goal
