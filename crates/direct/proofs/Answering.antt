@@ -15,17 +15,17 @@ use Rattle.rc_machine.specs.Serving.{Takes, Stops}
 use Rattle.rc_machine.specs.State.{State}
 use Rattle.rc_machine.specs.Steps.{Steps, Refuses}
 use Rattle.rc_plain.specs.Stands.{Keeping, PlainStands}
-use Rattle.direct.specs.calls.Answered.{IsAnswered}
+use Rattle.direct.specs.calls.Answered.{IsCommandAnswered}
 
 -- whatever state the program stood for, the line is answered by a reply, and it stands for the next one
 abbrev pub Answers : Option Files → Keeping → List ℕ → Option Files → Keeping → Reply → Type 0
-Answers files k line files' k' reply = (m : State) → PlainStands files k m → (next : State) × IsAnswered m (parse (Some m.schema) line) reply next × PlainStands files' k' next
+Answers files k line files' k' reply = (m : State) → PlainStands files k m → (next : State) × IsCommandAnswered m (parse (Some m.schema) line) reply next × PlainStands files' k' next
 
 module _ (files files' : Option Files) (k k' : Keeping) (line : List ℕ) where
   -- what the line means under the state's schema, which is the program's
-  means : (meaning : Result Command Refusal) → parse (Some k.schema) line ≡ meaning → (m : State) → PlainStands files k m → (reply : Reply) (next : State) → IsAnswered m meaning reply next
-      → IsAnswered m (parse (Some m.schema) line) reply next
-  means meaning p m s reply next a = subst (λ said. IsAnswered m said reply next) (sym (ap (λ z. parse (Some z) line) s.over.schema ∙ p)) a
+  means : (meaning : Result Command Refusal) → parse (Some k.schema) line ≡ meaning → (m : State) → PlainStands files k m → (reply : Reply) (next : State) → IsCommandAnswered m meaning reply next
+      → IsCommandAnswered m (parse (Some m.schema) line) reply next
+  means meaning p m s reply next a = subst (λ said. IsCommandAnswered m said reply next) (sym (ap (λ z. parse (Some z) line) s.over.schema ∙ p)) a
 
   pub by_step : (command : Command) (r : Result Reply AllocError) → parse (Some k.schema) line ≡ Ok command → is_built command ≡ true
       → IfOk r (λ reply. Takes PlainStands files k command reply files' k') → IfOk r (Answers files k line files' k')

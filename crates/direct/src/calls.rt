@@ -4,7 +4,7 @@ ghost use Rattle.std.specs.Prelude.{◌≡◌, Some, IfOk};
 ghost use Rattle.rc_lines.specs.Grammar.{parse};
 ghost use Rattle.rc_machine.specs.State.{State};
 ghost use Rattle.rc_plain.specs.Stands.{PlainStands};
-ghost use Rattle.direct.specs.calls.Answered.{IsAnswered};
+ghost use Rattle.direct.specs.calls.Answered.{IsCommandAnswered};
 
 use rc_lines::{LineErr, Refusal, Reply, read_line};
 use rc_outside::Store;
@@ -21,7 +21,7 @@ pub fn answer<W: Store>(
 ) -> Result<Reply, AllocError>
     requires { (m : State) × PlainStands (W.files store.old) machine.old m }
     ensures answered { IfOk result (λ reply. (m : State) → PlainStands (W.files store.old) machine.old m →
-        (next : State) × IsAnswered m (parse (Some m.schema) line.now) reply next × PlainStands (W.files store.new) machine.new next) }
+        (next : State) × IsCommandAnswered m (parse (Some m.schema) line.now) reply next × PlainStands (W.files store.new) machine.new next) }
     ensures stands { (m : State) × PlainStands (W.files store.new) machine.new m }
 {
     match read_line(alloc, Some(machine.schema()), line) {

@@ -1,7 +1,7 @@
 -- A reader in one of its two forms.
 --     ByForm             what holds of a reader over the row cache, and of one past it
 --     held_by            the snapshots that it holds
---     GoesOn             in which form it is after a page
+--     IsFormKept             in which form it is after a page
 --     lines_gone_past    what is left to it once it is past the row cache
 use Rattle.std.specs.Prelude.{◌≡◌, ⊤, List, None, IsSome, Result, Ok, Err}
 use Rattle.rc_mutation.specs.declared.mutations.Mutation.{Mutation}
@@ -26,11 +26,11 @@ held_by (Cached o) = o.held
 held_by (Past o) = record { cached = None; written = snaps_of o.opened }
 
 -- after a page a reader is in the form in which it was; over the row cache it holds the same, and was told of a line, or that there is none, where the page was given; else it was told what it was told
-abbrev pub GoesOn : {T : Type 0} → Result T PageErr → PartReader → PartReader → Type 0
-GoesOn (Ok gave) (Cached o) (Cached n) = (n.held ≡ o.held) × IsSome n.behind
-GoesOn (Err e) (Cached o) (Cached n) = (n.held ≡ o.held) × (n.behind ≡ o.behind)
-GoesOn result (Past o) (Past n) = ⊤
-GoesOn result old new = ⊥
+abbrev pub IsFormKept : {T : Type 0} → Result T PageErr → PartReader → PartReader → Type 0
+IsFormKept (Ok gave) (Cached o) (Cached n) = (n.held ≡ o.held) × IsSome n.behind
+IsFormKept (Err e) (Cached o) (Cached n) = (n.held ≡ o.held) × (n.behind ≡ o.behind)
+IsFormKept result (Past o) (Past n) = ⊤
+IsFormKept result old new = ⊥
 
 -- the lines that are left to a reader once it is past the row cache, where the tables said this and say that now: where it is past it already, those that were left
 abbrev pub lines_gone_past : List Mutation → Mutation → List Mutation → PartReader → List OutLine → List OutLine

@@ -35,8 +35,8 @@ use Rattle.rc_machine.specs.State.{Reader, State}
 use Rattle.rc_shard.specs.declared.readers.PartitionReader.{PartitionReader}
 use Rattle.rc_shard.specs.declared.shard.Shard.{Shard}
 use Rattle.rc_shard.specs.Cached.{HaveCached}
-use Rattle.rc_shard.specs.Readers.{AreHeld, AreTwo, IsServed, cached_of, count_of, holding}
-use Rattle.rc_shard.specs.Releasing.{IsGivenBack}
+use Rattle.rc_shard.specs.Readers.{AreHeldThere, AreTwo, IsServed, cached_of, number_of_snaps, holding}
+use Rattle.rc_shard.specs.Releasing.{IsSnapGivenBack}
 use Rattle.rc_shard.specs.Stands.{AreFor, Stands}
 use Rattle.rc_shard.specs.calls.Opened.{AreHeldReleased}
 use Rattle.rc_shard.specs.calls.Staying.{Staying}
@@ -57,14 +57,14 @@ pub record IsPastRest (snap : Option Snap) (old new : Memory) : Type 0 where
   pub memtables : (id : ℕ) (k : KeptChain) → chain_at old id ≡ Some k → k.chain.kind ≡ Memtable → chain_at new id ≡ Some k
   pub seen : (t : Snap) → HasSnap old t → StillSees t old new
   pub pins : (id pin : ℕ) → IfSome snap (λ s. id ≡ s.chain → pin ≡ s.pin → ⊥) → HasCacheSnapshot old id pin → HasCacheSnapshot new id pin
-  pub snapshots : cache_snapshots new + count_of snap ≤ cache_snapshots old
+  pub snapshots : cache_snapshots new + number_of_snaps snap ≤ cache_snapshots old
   pub bytes : memtable_bytes new ≤ memtable_bytes old
   pub segments : length new.region.usages ≡ length old.region.usages
   pub counts : new.counts ≡ old.counts
   pub fell : NoCountFell old new
   pub recency : new.recency ≡ old.recency
 
-pub past-rest : (snap : Option Snap) (old new : Memory) → IsGivenBack snap old new → IsPastRest snap old new
+pub past-rest : (snap : Option Snap) (old new : Memory) → IsSnapGivenBack snap old new → IsPastRest snap old new
 past-rest None old new same = subst (IsPastRest None old) (sym same) (record {
   says = λ schema below h. h;
   entries = λ es h. h;
@@ -130,11 +130,11 @@ last-of : {X : Type 0} (P : X → Type 0) (xs : List X) (y : X) → AllByRecursi
 last-of P [] y h = h.0
 last-of P (x ∷ xs) y h = last-of P xs y h.1
 
-pub last-held : (m : Memory) (x : ℕ × PartitionReader) (os : List (ℕ × PartitionReader)) → AllByRecursion (λ o. AreHeld m (held_by o.1.reader)) (os ++ x ∷ []) → AreHeld m (held_by x.1.reader)
-last-held m x os h = last-of (λ o. AreHeld m (held_by o.1.reader)) os x h
+pub last-held : (m : Memory) (x : ℕ × PartitionReader) (os : List (ℕ × PartitionReader)) → AllByRecursion (λ o. AreHeldThere m (held_by o.1.reader)) (os ++ x ∷ []) → AreHeldThere m (held_by x.1.reader)
+last-held m x os h = last-of (λ o. AreHeldThere m (held_by o.1.reader)) os x h
 
 pub closed-held : (m n : Memory) (x : ℕ × PartitionReader) (os : List (ℕ × PartitionReader)) → ((s : Snap) → HasSnap m s → IsNoneOf (held_by x.1.reader).written s → StillSees s m n) → ((id pin : ℕ) → IfSome (held_by x.1.reader).cached (λ s. id ≡ s.chain → pin ≡ s.pin → ⊥) → HasCacheSnapshot m id pin → HasCacheSnapshot n id pin) →
-    AllPairs AreTwo (map holding (os ++ x ∷ [])) → AllByRecursion (λ o. AreHeld m (held_by o.1.reader)) (os ++ x ∷ []) → AllByRecursion (λ o. AreHeld n (held_by o.1.reader)) os
+    AllPairs AreTwo (map holding (os ++ x ∷ [])) → AllByRecursion (λ o. AreHeldThere m (held_by o.1.reader)) (os ++ x ∷ []) → AllByRecursion (λ o. AreHeldThere n (held_by o.1.reader)) os
 closed-held m n x [] sees pins two h = tt
 closed-held m n x (o ∷ os) sees pins two h =
     let later = each-later AreTwo (holding o) (map holding (os ++ x ∷ [])) two in
@@ -151,7 +151,7 @@ pairs-front R xs ys h = λ i j d l k.
 pub front-two : (x : ℕ × PartitionReader) (os : List (ℕ × PartitionReader)) → AllPairs AreTwo (map holding (os ++ x ∷ [])) → AllPairs AreTwo (map holding os)
 front-two x os two = pairs-front AreTwo (map holding os) (map holding (x ∷ [])) (subst (AllPairs AreTwo) (map-append holding os (x ∷ [])) two)
 
-pub served-held : (lines : PartReader → Memory → List Mutation → List OutLine → Type 0) (below : ℕ → List Mutation) (st : State) (m : Memory) (os : List (ℕ × PartitionReader)) (rs : List (ℕ × Reader)) → AllZip (IsServed lines below st m) os rs → AllByRecursion (λ o. AreHeld m (held_by o.1.reader)) os
+pub served-held : (lines : PartReader → Memory → List Mutation → List OutLine → Type 0) (below : ℕ → List Mutation) (st : State) (m : Memory) (os : List (ℕ × PartitionReader)) (rs : List (ℕ × Reader)) → AllZip (IsServed lines below st m) os rs → AllByRecursion (λ o. AreHeldThere m (held_by o.1.reader)) os
 served-held lines below st m [] rs h = tt
 served-held lines below st m (o ∷ os) [] h = absurd h
 served-held lines below st m (o ∷ os) (r ∷ rs) h = (h.0.held, served-held lines below st m os rs h.1)
@@ -195,7 +195,7 @@ module _ (lines : PartReader → Memory → List Mutation → List OutLine → T
             let b = first.snapshots in
             let c = rest.snapshots.number in
             let sum = cached-removed at d k.readers.items (in-range id k.readers.items at p) in
-            let e = ap (λ (o : ℕ × PartitionReader). count_of (cached_of o.1)) here in
+            let e = ap (λ (o : ℕ × PartitionReader). number_of_snaps (cached_of o.1)) here in
             omega (arith, a, b, c, sum, e));
         served = served;
         two = fewer-two id at k.readers.items p s.two;

@@ -35,9 +35,9 @@ use Rattle.rc_shard.specs.declared.readers.Source.{Source}
 use Rattle.rc_shard.specs.declared.readers.Source.TheVariants.{Read}
 use Rattle.rc_shard.specs.declared.shard.Shard.{Shard}
 use Rattle.rc_shard.specs.Cached.{HaveCached, IsJoinSaid}
-use Rattle.rc_shard.specs.Readers.{count_of}
+use Rattle.rc_shard.specs.Readers.{number_of_snaps}
 use Rattle.rc_shard.specs.Stands.{AreFor, Stands}
-use Rattle.rc_shard.specs.calls.Looking.{snap_in, source_taken}
+use Rattle.rc_shard.specs.calls.Looking.{source_snap, source_taken}
 use Rattle.rc_shard.specs.calls.Staying.{Staying}
 use Rattle.rc_shard.proofs.Forgotten.{key-is, key-itself}
 use Rattle.rc_shard.proofs.Looking.{Beside, IsRest, over-of, used-for}
@@ -147,8 +147,8 @@ cause-of T U stream_err.NoMemory files before now h = h
 -- ---- what a shard stands for
 
 -- what was read gives no snapshot
-pub none-taken : {E : Type 0} (r : Result Source E) (s : Stream) → IfOk r (λ source. source ≡ Read s) → count_of (source_taken r) ≡ 0
-none-taken (Ok source) s e = ap (λ x. count_of (snap_in x)) e
+pub none-taken : {E : Type 0} (r : Result Source E) (s : Stream) → IfOk r (λ source. source ≡ Read s) → number_of_snaps (source_taken r) ≡ 0
+none-taken (Ok source) s e = ap (λ x. number_of_snaps (source_snap x)) e
 none-taken (Err e) s h = refl
 
 -- no snapshot is of the entry, where none was of the chain of the one that was handed out

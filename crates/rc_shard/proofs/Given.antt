@@ -37,7 +37,7 @@ use Rattle.rc_shard.specs.declared.readers.PartitionReader.{PartitionReader}
 use Rattle.rc_shard.specs.declared.shard.Shard.{Shard}
 use Rattle.rc_shard.specs.Knowing.{IsCachedWhere, IsGonePast, IsKnownStill, IsPartitionListed, IsReaderTouched, IsTouchedAsGiven, StaysKnown}
 use Rattle.rc_shard.specs.Readers.{cached_of}
-use Rattle.rc_shard.specs.Releasing.{IsGivenBack}
+use Rattle.rc_shard.specs.Releasing.{IsSnapGivenBack}
 use Rattle.rc_shard.specs.Stands.{Stands}
 use Rattle.rc_shard.specs.calls.Caching.{LeavesCache}
 use Rattle.rc_shard.specs.calls.Keeping.{CountsStay, StandsForTheSame}
@@ -164,7 +164,7 @@ stays-past id count at d k l k' are gone p u none key listed =
 
 -- ---- what was touched
 
-gone-past : (snap : Option Snap) (m n : Memory) → IsGivenBack snap m n → IsGonePast snap m n
+gone-past : (snap : Option Snap) (m n : Memory) → IsSnapGivenBack snap m n → IsGonePast snap m n
 gone-past None m n same = inl same
 gone-past (Some s) m n r = inr r
 

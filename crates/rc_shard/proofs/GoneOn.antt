@@ -31,8 +31,8 @@ use Rattle.rc_machine.specs.Steps.{IsResaid}
 use Rattle.rc_shard.specs.declared.readers.PartitionReader.{PartitionReader}
 use Rattle.rc_shard.specs.declared.shard.Shard.{Shard}
 use Rattle.rc_shard.specs.Cached.{HaveCached}
-use Rattle.rc_shard.specs.Readers.{AreHeld, IsReadOver, IsServed, WasOpened, cached_of, count_of, lies_below, snaps_of}
-use Rattle.rc_shard.specs.Releasing.{IsGivenBack}
+use Rattle.rc_shard.specs.Readers.{AreHeldThere, IsReadOver, IsServed, WasOpened, cached_of, number_of_snaps, lies_below, written_snaps_of}
+use Rattle.rc_shard.specs.Releasing.{IsSnapGivenBack}
 use Rattle.rc_shard.specs.Stands.{AreFor, Stands}
 use Rattle.rc_shard.specs.calls.Reading.{IsGoneOn}
 use Rattle.rc_shard.specs.calls.Resaying.{IsJoinBelow, IsReadAnew, IsToldAnew}
@@ -116,8 +116,8 @@ module _ (lines : PartReader → Memory → List Mutation → List OutLine → T
     past-stays (Past o) m n left past sees h = stays.left (Past o) m n [] left tt (both-same m n (held_by (Past o)).written sees) h
 
     pub gone-at : (files : Option Files) (k k' : Shard) (id at : ℕ) (d x : ℕ × PartitionReader) (read : Mutation) (said : List Mutation) (m : State) → Anew → ((left : List OutLine) (x : PartReader) (below other : List Mutation) → ByForm (λ _. ⊥) (λ _. ⊤) x → lines x k.unstored.chains below left → lines x k.unstored.chains other left) →
-        IsPlace id k.readers.items at → get_or k.readers.items at d ≡ d → GoesPast k.unstored.chains read d.1.reader x.1.reader → ByForm (λ _. ⊥) (λ _. ⊤) x.1.reader → held_by x.1.reader ≡ record { cached = None; written = snaps_of d.1 } → x.0 ≡ d.0 → x.1.key ≡ d.1.key → x.1.tables ≡ d.1.tables →
-        IsGivenBack (cached_of d.1) k.unstored.chains k'.unstored.chains → k'.unstored ≡ in_chains k'.unstored.chains k.unstored → k'.folder ≡ k.folder → k'.cache.entries ≡ k.cache.entries → k'.segments ≡ k.segments → k'.readers.items ≡ set k.readers.items at x →
+        IsPlace id k.readers.items at → get_or k.readers.items at d ≡ d → GoesPast k.unstored.chains read d.1.reader x.1.reader → ByForm (λ _. ⊥) (λ _. ⊤) x.1.reader → held_by x.1.reader ≡ record { cached = None; written = written_snaps_of d.1 } → x.0 ≡ d.0 → x.1.key ≡ d.1.key → x.1.tables ≡ d.1.tables →
+        IsSnapGivenBack (cached_of d.1) k.unstored.chains k'.unstored.chains → k'.unstored ≡ in_chains k'.unstored.chains k.unstored → k'.folder ≡ k.folder → k'.cache.entries ≡ k.cache.entries → k'.segments ≡ k.segments → k'.readers.items ≡ set k.readers.items at x →
         IsSaidByFirst m d.1.tables d.1.key said → IsJoinOf read said → IsMutation read → ChangeFits k.folder.schema read → Stands lines files k m → IsGoneOn (Stands lines) files id m k'
     gone-at files k k' id at d x read said m anew same p here goes past held own key tables back unst folder cache segs items by join is fits s =
         let n = k'.unstored.chains in
@@ -142,17 +142,17 @@ module _ (lines : PartReader → Memory → List Mutation → List OutLine → T
           one = rest.one s.cached.one;
           used = rest.used s.cached.used;
         } in
-        let snaps : snaps_of x.1 ≡ snaps_of d.1 = ap (λ (g : HeldSnaps). g.written) held in
+        let snaps : written_snaps_of x.1 ≡ written_snaps_of d.1 = ap (λ (g : HeldSnaps). g.written) held in
         let none : cached_of x.1 ≡ None = ap (λ (g : HeldSnaps). g.cached) held in
-        let seen : StillSeeBoth (snaps_of d.1) k.unstored.chains n = seen-if k.unstored.chains n (snaps_of d.1) rest.seen h.held.written in
-        let sees : StillSeeBoth (snaps_of x.1) k.unstored.chains n = subst (λ g. StillSeeBoth g k.unstored.chains n) (sym snaps) seen in
+        let seen : StillSeeBoth (written_snaps_of d.1) k.unstored.chains n = seen-if k.unstored.chains n (written_snaps_of d.1) rest.seen h.held.written in
+        let sees : StillSeeBoth (written_snaps_of x.1) k.unstored.chains n = subst (λ g. StillSeeBoth g k.unstored.chains n) (sym snaps) seen in
         let opened : WasOpened new x.1.tables now = (opened-reading m given).opened x.1.tables now (subst (λ (first : List TableInfo). WasOpened m first now) (sym tables) t.opened) in
         let one : (q : ℕ × Reader) → q.0 ≡ x.0 → IsServed lines s.cached.below new n x (q.0, now) = λ q e. record {
           id = sym e;
           key = key ∙ h.key;
           left = subst (λ (o : Option Snap). lines x.1.reader n (lies_below s.cached.below o) (rest_of now)) (sym none) (past-stays x.1.reader k.unstored.chains n (rest_of now) past sees t.left);
           over = past-over s.cached.below new.schema n x.1.reader now past;
-          held = subst (AreHeld n) (sym held) (record { written = there-then k.unstored.chains n (snaps_of d.1) h.held.written seen; two = h.held.two; cached = tt });
+          held = subst (AreHeldThere n) (sym held) (record { written = there-then k.unstored.chains n (written_snaps_of d.1) h.held.written seen; two = h.held.two; cached = tt });
           opened = opened;
         } in
         let same-id : x.0 ≡ (get_or k.readers.items at d).0 = own ∙ ap (λ (o : ℕ × PartitionReader). o.0) (sym here) in
@@ -173,8 +173,8 @@ module _ (lines : PartReader → Memory → List Mutation → List OutLine → T
               let a = s.taken in
               let b = rest.snapshots in
               let sum = cached-set at d x k.readers.items (in-range id k.readers.items at p) in
-              let e = ap (λ (g : HeldSnaps). count_of g.cached) was in
-              let z = ap count_of none in
+              let e = ap (λ (g : HeldSnaps). number_of_snaps g.cached) was in
+              let z = ap number_of_snaps none in
               omega (arith, a, b, sum, e, z));
           served = served;
           two = pairs;

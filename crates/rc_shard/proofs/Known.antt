@@ -41,7 +41,7 @@ use Rattle.rc_lines.specs.declared.commands.Reply.{Reply}
 use Rattle.rc_shard.specs.declared.readers.PartitionReader.{PartitionReader}
 use Rattle.rc_shard.specs.declared.shard.Shard.{Shard}
 use Rattle.rc_shard.specs.Knowing.{IsCachedWhere, IsCachedWhole, IsChainWhere, IsKnownStill, IsPartitionListed, IsUnwritten, StaysKnown}
-use Rattle.rc_shard.specs.Releasing.{IsGivenBack, IsListed}
+use Rattle.rc_shard.specs.Releasing.{IsSnapGivenBack, IsChainListed}
 use Rattle.rc_shard.specs.calls.Caching.{AreOthers, Forgets, HasCache, LeavesCache}
 use Rattle.rc_shard.specs.calls.Keeping.{TellsOf}
 use Rattle.rc_shard.specs.calls.Looking.{AreKnownStill, IsCacheLeft, UnlessMemory}
@@ -126,12 +126,12 @@ left-known k k' are gone h none key =
 -- ---- a snapshot of the row cache is taken back
 
 -- a partition of which something could be evicted has its chain still
-pub listed-still : (snap : Option Snap) (key : List ℕ) (es : List (List ℕ × ℕ)) (old mid : Memory) → IsGivenBack snap old mid → IsSomeAnd (entry_number es key) (IsListed old) → IsEntryStill key es old es mid
+pub listed-still : (snap : Option Snap) (key : List ℕ) (es : List (List ℕ × ℕ)) (old mid : Memory) → IsSnapGivenBack snap old mid → IsSomeAnd (entry_number es key) (IsChainListed old) → IsEntryStill key es old es mid
 listed-still None key es old mid same listed = subst (IsEntryStill key es old es) (sym same) (λ id e on. (e, λ k there. (k, there, same-content k)))
-listed-still (Some s) key es old mid r listed = λ id e on. (e, λ k there. r.still id k there (ap (λ (q : KeptChain). q.chain.kind) (same_some k on.kept (sym there ∙ on.there)) ∙ on.kind) (subst (λ o. IsSomeAnd o (IsListed old)) e listed))
+listed-still (Some s) key es old mid r listed = λ id e on. (e, λ k there. r.still id k there (ap (λ (q : KeptChain). q.chain.kind) (same_some k on.kept (sym there ∙ on.there)) ∙ on.kind) (subst (λ o. IsSomeAnd o (IsChainListed old)) e listed))
 
 -- what is known of a partition of which something could be evicted is known still, where a snapshot was taken back and then the cache was left
-pub back-known : (snap : Option Snap) (k k' : Shard) (mid : Memory) (key : List ℕ) → AreEntries k.cache.entries k.unstored.chains → AreGone k.unstored.chains → k'.cache ≡ k.cache → IsGivenBack snap k.unstored.chains mid → LeavesCache mid k'.unstored.chains → NoneLost (losses mid) (losses k'.unstored.chains) → IsPartitionListed k key → IsKnownStill key k k'
+pub back-known : (snap : Option Snap) (k k' : Shard) (mid : Memory) (key : List ℕ) → AreEntries k.cache.entries k.unstored.chains → AreGone k.unstored.chains → k'.cache ≡ k.cache → IsSnapGivenBack snap k.unstored.chains mid → LeavesCache mid k'.unstored.chains → NoneLost (losses mid) (losses k'.unstored.chains) → IsPartitionListed k key → IsKnownStill key k k'
 back-known snap k k' mid key are gone cache back left none listed =
     let es = k.cache.entries in
     let first : IsEntryStill key es k.unstored.chains es mid = listed-still snap key es k.unstored.chains mid back listed in

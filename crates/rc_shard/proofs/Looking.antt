@@ -39,7 +39,7 @@ use Rattle.rc_shard.specs.declared.readers.PartitionReader.{PartitionReader}
 use Rattle.rc_shard.specs.declared.shard.Shard.{Shard}
 use Rattle.rc_shard.specs.Cached.{HaveCached}
 use Rattle.rc_shard.specs.Knowing.{IsChainWhere}
-use Rattle.rc_shard.specs.Readers.{IsCachedThere, IsOther, IsServed, cached_of, count_of}
+use Rattle.rc_shard.specs.Readers.{IsCachedThere, IsOtherSnap, IsServed, cached_of, number_of_snaps}
 use Rattle.rc_shard.specs.Stands.{AreFor, Stands}
 use Rattle.rc_shard.specs.Using.{LeavesBeside}
 use Rattle.rc_shard.specs.calls.Keeping.{CountsStay}
@@ -66,7 +66,7 @@ pub record IsRest (more : ℕ) (old new : Memory) : Type 0 where
 pub rest-plain : (old new : Memory) → LeavesRest old new → IsRest 0 old new
 rest-plain old new r = record { memtables = r.memtables; seen = r.seen; segments = r.segments; counts = r.counts; bytes = r.bytes; one = r.one; used = r.used; pins = r.pins; snapshots = (let a = r.snapshots in omega (arith, a)) }
 
-pub rest-of : (taken : Option Snap) (old new : Memory) → LeavesBeside taken old new → IsRest (count_of taken) old new
+pub rest-of : (taken : Option Snap) (old new : Memory) → LeavesBeside taken old new → IsRest (number_of_snaps taken) old new
 rest-of None old new r = rest-plain old new r
 rest-of (Some s) old new r = record { memtables = r.memtables; seen = r.seen; segments = r.segments; counts = r.counts; bytes = r.bytes; one = r.one; used = r.used; pins = r.pins; snapshots = r.snapshots }
 
@@ -188,11 +188,11 @@ some-is (Some i) j e = refl
 has-pin : (m : Memory) (s : Snap) → HasCacheSnapshot m s.chain s.pin → HasPin m s.chain s.pin
 has-pin m s h = subst (λ (o : Option KeptChain). IsSomeAnd o (λ q. IsSome (pin_at q.chain.pins s.pin))) (sym h.there) (some-is (pin_at h.chain.chain.pins s.pin) h.number h.pinned)
 
-not-this : (m : Memory) (s : Snap) → (HasPin m s.chain s.pin → ⊥) → (o : Option Snap) → IsCachedThere m o → IsOther o s
+not-this : (m : Memory) (s : Snap) → (HasPin m s.chain s.pin → ⊥) → (o : Option Snap) → IsCachedThere m o → IsOtherSnap o s
 not-this m s fresh None h = tt
 not-this m s fresh (Some t) h = λ c p. fresh (subst (λ i. HasPin m i s.pin) (sym c) (subst (λ i. HasPin m t.chain i) (sym p) (has-pin m t h)))
 
-none-taken : (lines : PartReader → Memory → List Mutation → List OutLine → Type 0) (below : ℕ → List Mutation) (st : State) (m : Memory) (s : Snap) (fresh : HasPin m s.chain s.pin → ⊥) (os : List (ℕ × PartitionReader)) (rs : List (ℕ × Reader)) → AllZip (IsServed lines below st m) os rs → AllByRecursion (λ o. IsOther (cached_of o.1) s) os
+none-taken : (lines : PartReader → Memory → List Mutation → List OutLine → Type 0) (below : ℕ → List Mutation) (st : State) (m : Memory) (s : Snap) (fresh : HasPin m s.chain s.pin → ⊥) (os : List (ℕ × PartitionReader)) (rs : List (ℕ × Reader)) → AllZip (IsServed lines below st m) os rs → AllByRecursion (λ o. IsOtherSnap (cached_of o.1) s) os
 none-taken lines below st m s fresh [] rs h = tt
 none-taken lines below st m s fresh (o ∷ os) [] h = absurd h
 none-taken lines below st m s fresh (o ∷ os) (r ∷ rs) h = (not-this m s fresh (cached_of o.1) h.0.held.cached, none-taken lines below st m s fresh os rs h.1)
@@ -202,7 +202,7 @@ pub entry-snapshot : (lines : PartReader → Memory → List Mutation → List O
 entry-snapshot lines files k k' m key s stands same h = record {
   entry = h.entry;
   there = h.there;
-  apart = subst (AllByRecursion (λ o. IsOther (cached_of o.1) s)) (sym (ap (λ rs. rs.items) same)) (none-taken lines stands.cached.below m k.unstored.chains s h.fresh k.readers.items m.readers stands.served);
+  apart = subst (AllByRecursion (λ o. IsOtherSnap (cached_of o.1) s)) (sym (ap (λ rs. rs.items) same)) (none-taken lines stands.cached.below m k.unstored.chains s h.fresh k.readers.items m.readers stands.served);
 }
 
 -- what is left by the answer of a call that hands out a snapshot, if it does

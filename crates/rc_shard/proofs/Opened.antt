@@ -27,8 +27,8 @@ use Rattle.rc_paging.specs.Forms.{held_by}
 use Rattle.rc_shard.specs.declared.readers.PartitionReader.{PartitionReader}
 use Rattle.rc_shard.specs.declared.readers.Source.{Source}
 use Rattle.rc_shard.specs.declared.readers.Source.TheVariants.{Cached, Read}
-use Rattle.rc_shard.specs.Readers.{AreHeld, IsReadOver}
-use Rattle.rc_shard.specs.calls.Looking.{snap_in}
+use Rattle.rc_shard.specs.Readers.{AreHeldThere, IsReadOver}
+use Rattle.rc_shard.specs.calls.Looking.{source_snap}
 use Rattle.rc_shard.specs.calls.Opened.{AreBothReleased, AreJoined, IsOpenedOver, IsReadSource, IsSourceLetGo, TellsBelow, below_if}
 use Rattle.rc_shard.specs.calls.Storing.{KeepsUnstored}
 use Rattle.rc_shard.proofs.Joined.{below-beside, both-mutations}
@@ -38,8 +38,8 @@ pub none-ok : {A : Type 0} (r : Result A AllocError) (P : A → Type 0) → IsEr
 none-ok (Ok x) P h = absurd (cc)
 none-ok (Err e) P h = tt
 
-pub held-ok : (r : Result PartitionReader AllocError) (u v : Unstored 131072) (held : HeldSnaps) → IfOk r (λ o. held_by o.reader ≡ held) → IfOk r (λ o. v ≡ u) → AreHeld u.chains held → IfOk r (λ o. AreHeld v.chains (held_by o.reader))
-held-ok (Ok o) u v held is same h = subst (AreHeld v.chains) (sym is) (subst (λ (x : Unstored 131072). AreHeld x.chains held) (sym same) h)
+pub held-ok : (r : Result PartitionReader AllocError) (u v : Unstored 131072) (held : HeldSnaps) → IfOk r (λ o. held_by o.reader ≡ held) → IfOk r (λ o. v ≡ u) → AreHeldThere u.chains held → IfOk r (λ o. AreHeldThere v.chains (held_by o.reader))
+held-ok (Ok o) u v held is same h = subst (AreHeldThere v.chains) (sym is) (subst (λ (x : Unstored 131072). AreHeldThere x.chains held) (sym same) h)
 held-ok (Err e) u v held is same h = tt
 
 pub kept-ok : (r : Result PartitionReader AllocError) (u v w : Unstored 131072) → IfOk r (λ o. w ≡ v) → ((schema : SchemaValue) → KeepsUnstored schema u v) → IfOk r (λ o. (schema : SchemaValue) → KeepsUnstored schema u w)
@@ -47,12 +47,12 @@ kept-ok (Ok o) u v w same kept = λ schema. subst (KeepsUnstored schema u) (sym 
 kept-ok (Err e) u v w same kept = tt
 
 -- what was read is no snapshot, so none is taken back
-read-none : (source : Source) (schema : SchemaValue) (u w : Unstored 131072) → IsReadSource source → KeepsUnstored schema u w → IsSourceLetGo (snap_in source) schema u w
+read-none : (source : Source) (schema : SchemaValue) (u w : Unstored 131072) → IsReadSource source → KeepsUnstored schema u w → IsSourceLetGo (source_snap source) schema u w
 read-none (Cached s) schema u w is kept = absurd is
 read-none (Read list) schema u w is kept = (w, kept, refl, refl)
 
 pub let-go-read : (r : Result PartitionReader AllocError) (source : Source) (u v w : Unstored 131072) (snaps : Snaps) → OnErr r (IsReadSource source × AreBothReleased snaps v w) → ((schema : SchemaValue) → AreBothReleased snaps v w → KeepsUnstored schema u w) →
-    OnErr r ((schema : SchemaValue) → IsSourceLetGo (snap_in source) schema u w)
+    OnErr r ((schema : SchemaValue) → IsSourceLetGo (source_snap source) schema u w)
 let-go-read (Ok o) source u v w snaps back kept = tt
 let-go-read (Err e) source u v w snaps back kept = λ schema. read-none source schema u w back.0 (kept schema back.1)
 

@@ -41,10 +41,10 @@ use Rattle.rc_shard.specs.declared.readers.Source.{Source}
 use Rattle.rc_shard.specs.declared.readers.Source.TheVariants as source
 use Rattle.rc_shard.specs.declared.shard.Shard.{Shard}
 use Rattle.rc_shard.specs.Cached.{HaveCached}
-use Rattle.rc_shard.specs.Releasing.{IsGivenBack}
-use Rattle.rc_shard.specs.Readers.{AreHeld, IsCachedThere, IsOther, IsReadOver, IsServed, cached_of, count_of, lies_below, snaps_of}
+use Rattle.rc_shard.specs.Releasing.{IsSnapGivenBack}
+use Rattle.rc_shard.specs.Readers.{AreHeldThere, IsCachedThere, IsOtherSnap, IsReadOver, IsServed, cached_of, number_of_snaps, lies_below, written_snaps_of}
 use Rattle.rc_shard.specs.Stands.{AreFor, Stands, StandsBeside}
-use Rattle.rc_shard.specs.calls.Looking.{IsSourceIn, snap_in}
+use Rattle.rc_shard.specs.calls.Looking.{IsSourceIn, source_snap}
 use Rattle.rc_shard.specs.calls.Opened.{IsOpenedOver, IsReadWhole, IsSourceLetGo, TellsBelow, below_if}
 use Rattle.rc_shard.specs.calls.Staying.{Staying}
 use Rattle.rc_shard.specs.calls.Storing.{KeepsUnstored}
@@ -122,17 +122,17 @@ each-none : (os : List (ℕ × PartitionReader)) → AllByRecursion (λ x. Unit 
 each-none [] = tt
 each-none (o ∷ os) = (tt, each-none os)
 
-apart-each : (o p : Option Snap) (os : List (ℕ × PartitionReader)) → o ≡ p → IfSome p (λ s. AllByRecursion (λ x. IsOther (cached_of x.1) s) os) → AllByRecursion (λ x. IfSome o (IsOther (cached_of x.1))) os
+apart-each : (o p : Option Snap) (os : List (ℕ × PartitionReader)) → o ≡ p → IfSome p (λ s. AllByRecursion (λ x. IsOtherSnap (cached_of x.1) s) os) → AllByRecursion (λ x. IfSome o (IsOtherSnap (cached_of x.1))) os
 apart-each None p os e h = each-none os
 apart-each (Some s) None os e h = absurd (cc)
-apart-each (Some s) (Some t) os e h = subst (λ (u : Snap). AllByRecursion (λ x. IsOther (cached_of x.1) u) os) (same-snap (sym e)) h
+apart-each (Some s) (Some t) os e h = subst (λ (u : Snap). AllByRecursion (λ x. IsOtherSnap (cached_of x.1) u) os) (same-snap (sym e)) h
 
 -- what tells what the tables say is there, and no reader's
-pub source-apart : (k : Shard) (m : State) (key : List ℕ) (source : Source) → IsSourceIn k m key source → IfSome (snap_in source) (λ s. AllByRecursion (λ o. IsOther (cached_of o.1) s) k.readers.items)
+pub source-apart : (k : Shard) (m : State) (key : List ℕ) (source : Source) → IsSourceIn k m key source → IfSome (source_snap source) (λ s. AllByRecursion (λ o. IsOtherSnap (cached_of o.1) s) k.readers.items)
 source-apart k m key (source.Read list) is = tt
 source-apart k m key (source.Cached t) is = is.apart
 
-pub source-there : (k : Shard) (m : State) (key : List ℕ) (source : Source) → IsSourceIn k m key source → IsCachedThere k.unstored.chains (snap_in source)
+pub source-there : (k : Shard) (m : State) (key : List ℕ) (source : Source) → IsSourceIn k m key source → IsCachedThere k.unstored.chains (source_snap source)
 source-there k m key (source.Read list) is = tt
 source-there k m key (source.Cached t) is = is.there
 
@@ -148,23 +148,23 @@ module _ (lines : PartReader → Memory → List Mutation → List OutLine → T
   pub opened-by : (files : Option Files) (m : State) (id : ℕ) (k k' : Shard) (r : Result Reply AllocError) (source : Source) (o p : Opening) → o ≡ p → (IsSourceIn k m o.key source → OpensBy files m id k' r o) → IsSourceIn k m p.key source → OpensBy files m id k' r p
   opened-by files m id k k' r source o p e opens = subst (λ (x : Opening). IsSourceIn k m x.key source → OpensBy files m id k' r x) e opens
 
-  pub served-there : (below : ℕ → List Mutation) (st : State) (m : Memory) (os : List (ℕ × PartitionReader)) (rs : List (ℕ × Reader)) → AllZip (IsServed lines below st m) os rs → AllByRecursion (λ o. AreThere m (snaps_of o.1)) os
+  pub served-there : (below : ℕ → List Mutation) (st : State) (m : Memory) (os : List (ℕ × PartitionReader)) (rs : List (ℕ × Reader)) → AllZip (IsServed lines below st m) os rs → AllByRecursion (λ o. AreThere m (written_snaps_of o.1)) os
   served-there below st m [] rs h = tt
   served-there below st m (o ∷ os) [] h = absurd h
   served-there below st m (o ∷ os) (r ∷ rs) h = (h.0.held.written, served-there below st m os rs h.1)
 
 module _ (lines : PartReader → Memory → List Mutation → List OutLine → Type 0) (stays : Staying lines) where
   -- a reader that was opened is the machine's
-  opened-served : (below : ℕ → List Mutation) (m : State) (mem : Memory) (id : ℕ) (key : List ℕ) (slice : Slice) (x : PartitionReader) (source : Source) (said sealed active : List Mutation) → m.schema ≡ m.schema → cached_of x ≡ snap_in source → x.key ≡ key → x.tables ≡ m.infos → AreHeld mem (held_by x.reader) → IsSaid m key said → IsSaidByFirst m m.infos key said →
-      changes_to key (unstored_writes m) ≡ sealed ++ active → IsOpenedOver lines m.schema mem slice (lies_below below (snap_in source)) said sealed active x → IsServed lines below m mem (id, x) (id, reader_with m key slice said)
+  opened-served : (below : ℕ → List Mutation) (m : State) (mem : Memory) (id : ℕ) (key : List ℕ) (slice : Slice) (x : PartitionReader) (source : Source) (said sealed active : List Mutation) → m.schema ≡ m.schema → cached_of x ≡ source_snap source → x.key ≡ key → x.tables ≡ m.infos → AreHeldThere mem (held_by x.reader) → IsSaid m key said → IsSaidByFirst m m.infos key said →
+      changes_to key (unstored_writes m) ≡ sealed ++ active → IsOpenedOver lines m.schema mem slice (lies_below below (source_snap source)) said sealed active x → IsServed lines below m mem (id, x) (id, reader_with m key slice said)
   opened-served below m mem id key slice x source said sealed active schema snap own tables held of first written over =
       let r : Reader = reader_with m key slice said in
-      let same : below_if (cached_of x) (lies_below below (snap_in source)) ≡ lies_below below (cached_of x) = lies-same below (cached_of x) (snap_in source) snap in
+      let same : below_if (cached_of x) (lies_below below (source_snap source)) ≡ lies_below below (cached_of x) = lies-same below (cached_of x) (source_snap source) snap in
       record {
         id = refl;
         key = own;
-        left = subst (λ (b : List Mutation). lines x.reader mem b (rest_of r)) same (subst (λ (cs : List Mutation). lines x.reader mem (below_if (cached_of x) (lies_below below (snap_in source))) (answer (said ++ cs) slice)) (sym written) over.left);
-        over = over-same below m.schema mem x.reader (snap_in source) r snap (over.over r refl refl refl written);
+        left = subst (λ (b : List Mutation). lines x.reader mem b (rest_of r)) same (subst (λ (cs : List Mutation). lines x.reader mem (below_if (cached_of x) (lies_below below (source_snap source))) (answer (said ++ cs) slice)) (sym written) over.left);
+        over = over-same below m.schema mem x.reader (source_snap source) r snap (over.over r refl refl refl written);
         held = held;
         opened = record { later = []; are = sym (append-nil m.infos) ∙ ap (λ (is : List TableInfo). is ++ []) (sym tables); listed = ap (listing key) (sym tables); said = subst (λ (is : List TableInfo). IsSaidByFirst m is key said) (sym tables) first };
       }
@@ -173,24 +173,24 @@ module _ (lines : PartReader → Memory → List Mutation → List OutLine → T
       position (λ reader. reader.0 == id) k.readers.items ≡ None → k'.folder ≡ k.folder → k'.cache.entries ≡ k.cache.entries → k'.segments ≡ k.segments → k'.readers.items ≡ k.readers.items ++ (id, x) ∷ [] → ((schema : SchemaValue) → KeepsUnstored schema k.unstored k'.unstored) → (said : List Mutation) →
       ((schema : SchemaValue) (writes later : List Write) (below : List Mutation) → HaveWrites schema k.unstored writes later → AreChangesOf schema (changes_to key writes) → AreChangesOf schema (changes_to key later) → AreChangesOf schema below → TellsBelow k'.unstored.chains source below said →
       IsOpenedOver lines schema k'.unstored.chains slice below said (changes_to key writes) (changes_to key later) x) →
-      AreHeld k'.unstored.chains (held_by x.reader) → cached_of x ≡ snap_in source → x.key ≡ key → x.tables ≡ k.folder.infos → ((s : Snap) → HasPin k.unstored.chains s.chain s.pin → IsNoneOf (snaps_of x) s) → IfSome (snap_in source) (λ s. AllByRecursion (λ o. IsOther (cached_of o.1) s) k.readers.items) →
-      (m : State) (s : StandsBeside lines (count_of (snap_in source)) files k m) → IsSaid m key said → TellsBelow k'.unstored.chains source (lies_below s.cached.below (snap_in source)) said → AreChangesOf k.folder.schema (lies_below s.cached.below (snap_in source)) →
+      AreHeldThere k'.unstored.chains (held_by x.reader) → cached_of x ≡ source_snap source → x.key ≡ key → x.tables ≡ k.folder.infos → ((s : Snap) → HasPin k.unstored.chains s.chain s.pin → IsNoneOf (written_snaps_of x) s) → IfSome (source_snap source) (λ s. AllByRecursion (λ o. IsOtherSnap (cached_of o.1) s) k.readers.items) →
+      (m : State) (s : StandsBeside lines (number_of_snaps (source_snap source)) files k m) → IsSaid m key said → TellsBelow k'.unstored.chains source (lies_below s.cached.below (source_snap source)) said → AreChangesOf k.folder.schema (lies_below s.cached.below (source_snap source)) →
       Stands lines files k' (record m { readers = m.readers ++ (id, reader_with m key slice said) ∷ [] })
   opens-reader files k k' id key slice x source both unused folder cache segs items kept said gives held snap own tables fresh apart m s of tells fits =
       let schema : SchemaValue = k.folder.schema in
       let h = s.have in
-      let kept-in : AreFor lines files k.folder k'.unstored k.cache.entries k.readers.items k.segments (count_of (snap_in source)) m = kept-for lines stays files k.folder k.unstored k'.unstored k.cache.entries k.readers.items k.segments (count_of (snap_in source)) m (kept schema) s in
+      let kept-in : AreFor lines files k.folder k'.unstored k.cache.entries k.readers.items k.segments (number_of_snaps (source_snap source)) m = kept-for lines stays files k.folder k.unstored k'.unstored k.cache.entries k.readers.items k.segments (number_of_snaps (source_snap source)) m (kept schema) s in
       let told = told-writes schema key m h.sealed h.later both s.over.schema s.sound.mutations s.over.fit h.are in
       let r : Reader = reader_with m key slice said in
       let given : List (ℕ × Reader) = m.readers ++ (id, r) ∷ [] in
-      let over = gives schema h.sealed h.later (lies_below s.cached.below (snap_in source)) h.have told.of_sealed told.of_later fits tells in
+      let over = gives schema h.sealed h.later (lies_below s.cached.below (source_snap source)) h.have told.of_sealed told.of_later fits tells in
       let new = opened-served s.cached.below m k'.unstored.chains id key slice x source said (changes_to key h.sealed) (changes_to key h.later) refl snap own (tables ∙ sym s.over.infos) held of (said-first files schema k.folder.infos m key said s.over of) (sym told.are)
-      (subst (λ (t : SchemaValue). IsOpenedOver lines t k'.unstored.chains slice (lies_below s.cached.below (snap_in source)) said (changes_to key h.sealed) (changes_to key h.later) x) (sym s.over.schema) over) in
+      (subst (λ (t : SchemaValue). IsOpenedOver lines t k'.unstored.chains slice (lies_below s.cached.below (source_snap source)) said (changes_to key h.sealed) (changes_to key h.later) x) (sym s.over.schema) over) in
       let served = more-served lines s.cached.below m k'.unstored.chains (id, x) (id, r) k.readers.items m.readers kept-in.served new in
       let there = served-there lines s.cached.below m k.unstored.chains k.readers.items m.readers s.served in
-      let pairs = more-two k.unstored.chains id (id, x) k.readers.items there (nowhere-of id k.readers.items unused) refl fresh (apart-each (cached_of x) (snap_in source) k.readers.items snap apart) s.two in
-      let stands = reading-more lines stays files k.folder k'.unstored k.cache.entries k.readers.items (k.readers.items ++ (id, x) ∷ []) k.segments (count_of (snap_in source)) 0 m given kept-in
-      (let sum = cached-more (id, x) k.readers.items in let e = ap count_of snap in omega (arith, sum, e)) served pairs in
+      let pairs = more-two k.unstored.chains id (id, x) k.readers.items there (nowhere-of id k.readers.items unused) refl fresh (apart-each (cached_of x) (source_snap source) k.readers.items snap apart) s.two in
+      let stands = reading-more lines stays files k.folder k'.unstored k.cache.entries k.readers.items (k.readers.items ++ (id, x) ∷ []) k.segments (number_of_snaps (source_snap source)) 0 m given kept-in
+      (let sum = cached-more (id, x) k.readers.items in let e = ap number_of_snaps snap in omega (arith, sum, e)) served pairs in
       moved lines files k k' k'.unstored (k.readers.items ++ (id, x) ∷ []) (record m { readers = given }) folder refl cache segs items stands
 
   -- ---- what tells what the tables say of a partition
@@ -202,7 +202,7 @@ module _ (lines : PartReader → Memory → List Mutation → List OutLine → T
     pub tells : TellsBelow mem source below said
     pub fits : AreChangesOf schema below
 
-  pub tells-of : (files : Option Files) (k : Shard) (u : Unstored 131072) (m : State) (key : List ℕ) (source : Source) (s : StandsBeside lines (count_of (snap_in source)) files k m) → KeepsUnstored k.folder.schema k.unstored u → IsSourceIn k m key source → IsTelling k.folder.schema m u.chains key source (lies_below s.cached.below (snap_in source))
+  pub tells-of : (files : Option Files) (k : Shard) (u : Unstored 131072) (m : State) (key : List ℕ) (source : Source) (s : StandsBeside lines (number_of_snaps (source_snap source)) files k m) → KeepsUnstored k.folder.schema k.unstored u → IsSourceIn k m key source → IsTelling k.folder.schema m u.chains key source (lies_below s.cached.below (source_snap source))
   tells-of files k u m key (source.Read list) s kept is = record { said = is.said; of_tables = is.of_tables; tells = (is.tabled, is.mutation, is.stream, is.joined); fits = record { mutations = λ i d l. absurd (omega (arith, l)); fit = λ i d l. absurd (omega (arith, l)) } }
   tells-of files k u m key (source.Cached t) s kept is =
       let schema : SchemaValue = k.folder.schema in
@@ -218,18 +218,18 @@ module _ (lines : PartReader → Memory → List Mutation → List OutLine → T
   -- ---- a snapshot that no reader holds was taken back
 
   module _ (beside : Beside) where
-    let-go-served : (below : ℕ → List Mutation) (st : State) (m n : Memory) → ((s : Snap) → HasCacheSnapshot n s.chain s.pin → StandsCached 131072 (below s.chain) n s) → (snap : Option Snap) → IsPastRest snap m n → (os : List (ℕ × PartitionReader)) (rs : List (ℕ × Reader)) → IfSome snap (λ s. AllByRecursion (λ o. IsOther (cached_of o.1) s) os) →
+    let-go-served : (below : ℕ → List Mutation) (st : State) (m n : Memory) → ((s : Snap) → HasCacheSnapshot n s.chain s.pin → StandsCached 131072 (below s.chain) n s) → (snap : Option Snap) → IsPastRest snap m n → (os : List (ℕ × PartitionReader)) (rs : List (ℕ × Reader)) → IfSome snap (λ s. AllByRecursion (λ o. IsOtherSnap (cached_of o.1) s) os) →
         AllZip (IsServed lines below st m) os rs → AllZip (IsServed lines below st n) os rs
     let-go-served below st m n stand snap rest [] [] apart h = tt
     let-go-served below st m n stand snap rest [] (r ∷ rs) apart h = absurd h
     let-go-served below st m n stand snap rest (o ∷ os) [] apart h = absurd h
     let-go-served below st m n stand snap rest (o ∷ os) (r ∷ rs) apart h =
-        let here : IfSome snap (IsOther (cached_of o.1)) = first-of snap _ _ apart in
+        let here : IfSome snap (IsOtherSnap (cached_of o.1)) = first-of snap _ _ apart in
         let there = cached-beside snap m n (cached_of o.1) rest.pins (each-back (cached_of o.1) snap here) h.0.held.cached in
-        (still-served lines stays st st (same-opened st) m n below stand o r (seen-if m n (snaps_of o.1) rest.seen h.0.held.written) there h.0, let-go-served below st m n stand snap rest os rs (second-of snap _ _ apart) h.1)
+        (still-served lines stays st st (same-opened st) m n below stand o r (seen-if m n (written_snaps_of o.1) rest.seen h.0.held.written) there h.0, let-go-served below st m n stand snap rest os rs (second-of snap _ _ apart) h.1)
 
-    let-go-for : (files : Option Files) (f : Tabled) (u : Unstored 131072) (n : Memory) (entries : List (List ℕ × ℕ)) (readers : List (ℕ × PartitionReader)) (segments : ℕ) (snap : Option Snap) (m : State) → IfSome snap (λ s. AllByRecursion (λ o. IsOther (cached_of o.1) s) readers) → IsGivenBack snap u.chains n →
-        AreFor lines files f u entries readers segments (count_of snap) m → AreFor lines files f (in_chains n u) entries readers segments 0 m
+    let-go-for : (files : Option Files) (f : Tabled) (u : Unstored 131072) (n : Memory) (entries : List (List ℕ × ℕ)) (readers : List (ℕ × PartitionReader)) (segments : ℕ) (snap : Option Snap) (m : State) → IfSome snap (λ s. AllByRecursion (λ o. IsOtherSnap (cached_of o.1) s) readers) → IsSnapGivenBack snap u.chains n →
+        AreFor lines files f u entries readers segments (number_of_snaps snap) m → AreFor lines files f (in_chains n u) entries readers segments 0 m
     let-go-for files f u n entries readers segments snap m apart back s =
         let rest = past-rest snap u.chains n back in
         let cached : HaveCached f.schema entries n m = record {
@@ -256,9 +256,9 @@ module _ (lines : PartReader → Memory → List Mutation → List OutLine → T
           two = s.two;
         }
 
-    pub not-opened : (files : Option Files) (k k' : Shard) (m : State) (key : List ℕ) (source : Source) → k'.folder ≡ k.folder → k'.cache.entries ≡ k.cache.entries → k'.segments ≡ k.segments → k'.readers.items ≡ k.readers.items → IsSourceLetGo (snap_in source) k.folder.schema k.unstored k'.unstored → IsSourceIn k m key source →
-        StandsBeside lines (count_of (snap_in source)) files k m → Stands lines files k' m
+    pub not-opened : (files : Option Files) (k k' : Shard) (m : State) (key : List ℕ) (source : Source) → k'.folder ≡ k.folder → k'.cache.entries ≡ k.cache.entries → k'.segments ≡ k.segments → k'.readers.items ≡ k.readers.items → IsSourceLetGo (source_snap source) k.folder.schema k.unstored k'.unstored → IsSourceIn k m key source →
+        StandsBeside lines (number_of_snaps (source_snap source)) files k m → Stands lines files k' m
     not-opened files k k' m key source folder cache segs items went is s =
-        let kept = kept-for lines stays files k.folder k.unstored went.0 k.cache.entries k.readers.items k.segments (count_of (snap_in source)) m went.1 s in
+        let kept = kept-for lines stays files k.folder k.unstored went.0 k.cache.entries k.readers.items k.segments (number_of_snaps (source_snap source)) m went.1 s in
         moved lines files k k' (in_chains k'.unstored.chains went.0) k.readers.items m folder went.3 cache segs items
-        (let-go-for files k.folder went.0 k'.unstored.chains k.cache.entries k.readers.items k.segments (snap_in source) m (source-apart k m key source is) went.2 kept)
+        (let-go-for files k.folder went.0 k'.unstored.chains k.cache.entries k.readers.items k.segments (source_snap source) m (source-apart k m key source is) went.2 kept)

@@ -11,7 +11,7 @@ use Rattle.rc_paging.specs.declared.forms.PartReader.{PartReader}
 use Rattle.rc_paging.specs.declared.forms.PartReader.TheVariants.{Cached, Past}
 use Rattle.rc_paging.specs.declared.layers.HeldSnaps.{HeldSnaps}
 use Rattle.rc_paging.specs.declared.pages.PageErr.{PageErr}
-use Rattle.rc_paging.specs.Forms.{ByForm, GoesOn, held_by}
+use Rattle.rc_paging.specs.Forms.{ByForm, IsFormKept, held_by}
 use Rattle.rc_paging.specs.Pages.{StandFor, left_on}
 use Rattle.rc_paging.specs.Remainders.{IsRemainderOf}
 use Rattle.rc_machine.specs.State.{Reader, State, rest_of}
@@ -31,7 +31,7 @@ some-settled None n on h = absurd (cc)
 some-settled (Some ls) n on h = h
 
 -- over the row cache it holds the same, and was told of a line, or that there is none
-over-paged : (schema : SchemaValue) (below : List Mutation) (m : Memory) (count : ℕ) (p q : PartReader) (gave : List OutLine × Bool) (r : Reader) → GoesOn {T = List OutLine × Bool} (Ok gave) p q → ((slice : Slice) → ByForm (λ o. IsRemainderOf slice o.remainder) (λ _. ⊤) p → ByForm (λ o. IsRemainderOf slice o.remainder) (λ _. ⊤) q) →
+over-paged : (schema : SchemaValue) (below : List Mutation) (m : Memory) (count : ℕ) (p q : PartReader) (gave : List OutLine × Bool) (r : Reader) → IsFormKept {T = List OutLine × Bool} (Ok gave) p q → ((slice : Slice) → ByForm (λ o. IsRemainderOf slice o.remainder) (λ _. ⊤) p → ByForm (λ o. IsRemainderOf slice o.remainder) (λ _. ⊤) q) →
     ByForm (λ c. IsReadOver schema below m c r) (λ _. ⊤) p → ByForm (λ c. IsReadOver schema below m c (reader_past count r)) (λ _. ⊤) q
 over-paged schema below m count (Past a) (Past b) gave r goes of h = tt
 over-paged schema below m count (Past a) (Cached b) gave r goes of h = absurd goes
@@ -53,7 +53,7 @@ over-paged schema below m count (Cached a) (Cached b) gave r goes of h = record 
 }
 
 -- it is as it was, where it gave none
-over-unpaged : (schema : SchemaValue) (below : List Mutation) (m : Memory) (p q : PartReader) (e : PageErr) (r : Reader) → GoesOn {T = List OutLine × Bool} (Err e) p q → ((slice : Slice) → ByForm (λ o. IsRemainderOf slice o.remainder) (λ _. ⊤) p → ByForm (λ o. IsRemainderOf slice o.remainder) (λ _. ⊤) q) →
+over-unpaged : (schema : SchemaValue) (below : List Mutation) (m : Memory) (p q : PartReader) (e : PageErr) (r : Reader) → IsFormKept {T = List OutLine × Bool} (Err e) p q → ((slice : Slice) → ByForm (λ o. IsRemainderOf slice o.remainder) (λ _. ⊤) p → ByForm (λ o. IsRemainderOf slice o.remainder) (λ _. ⊤) q) →
     ByForm (λ c. IsReadOver schema below m c r) (λ _. ⊤) p → ByForm (λ c. IsReadOver schema below m c r) (λ _. ⊤) q
 over-unpaged schema below m (Past a) (Past b) e r goes of h = tt
 over-unpaged schema below m (Past a) (Cached b) e r goes of h = absurd goes
@@ -91,14 +91,14 @@ paged-beside k k' id at d x p here items ids keys tables held unst folder cache 
 
 module _ (lines : PartReader → Memory → List Mutation → List OutLine → Type 0) (stays : Staying lines) (k k' : Shard) (id at count : ℕ) (d : ℕ × PartitionReader) (p : IsPlace id k.readers.items at) (here : get_or k.readers.items at d ≡ d) (b : IsPagedBeside at k k')
     (of : (slice : Slice) → ByForm (λ o. IsRemainderOf slice o.remainder) (λ _. ⊤) d.1.reader → ByForm (λ o. IsRemainderOf slice o.remainder) (λ _. ⊤) b.reader.1.reader) where
-  pub if-paged : (r : Result (List OutLine × Bool) PageErr) (files : Option Files) (m : State) → GoesOn r d.1.reader b.reader.1.reader →
+  pub if-paged : (r : Result (List OutLine × Bool) PageErr) (files : Option Files) (m : State) → IsFormKept r d.1.reader b.reader.1.reader →
       ((below : List Mutation) (ls : List OutLine) → lines d.1.reader k.unstored.chains below ls → IfOk r (λ gave. gave.0 ≡ take count ls)) → ((below : List Mutation) (ls : List OutLine) → lines d.1.reader k.unstored.chains below ls → IfOk r (λ gave. gave.1 ≡ nat_lt count (length ls))) →
       ((below : List Mutation) (ls : List OutLine) → lines d.1.reader k.unstored.chains below ls → lines b.reader.1.reader k.unstored.chains below (left_on r count ls)) → Stands lines files k m → IfOk r (λ gave. IsPaged (Stands lines) files id count m gave k')
   if-paged (Ok gave) files m goes gives more left s =
       paged-at lines stays files k k' id count at d gave m p here b (λ r below h. (gives below (rest_of r) h, more below (rest_of r) h, left below (rest_of r) h)) (λ below r h. over-paged m.schema below k.unstored.chains count d.1.reader b.reader.1.reader gave r goes of h) s
   if-paged (Err e) files m goes gives more left s = tt
 
-  pub on-unpaged : (r : Result (List OutLine × Bool) PageErr) → GoesOn r d.1.reader b.reader.1.reader → ((below : List Mutation) (ls : List OutLine) → lines d.1.reader k.unstored.chains below ls → lines b.reader.1.reader k.unstored.chains below (left_on r count ls)) → OnErr r (StandsForTheSame (Stands lines) k k')
+  pub on-unpaged : (r : Result (List OutLine × Bool) PageErr) → IsFormKept r d.1.reader b.reader.1.reader → ((below : List Mutation) (ls : List OutLine) → lines d.1.reader k.unstored.chains below ls → lines b.reader.1.reader k.unstored.chains below (left_on r count ls)) → OnErr r (StandsForTheSame (Stands lines) k k')
   on-unpaged (Ok gave) goes left = tt
   on-unpaged (Err e) goes left = unpaged-at lines stays k k' id at d p here b (λ ls below h. left below ls h) (λ schema below r h. over-unpaged schema below k.unstored.chains d.1.reader b.reader.1.reader e r goes of h)
 

@@ -23,9 +23,9 @@ use Rattle.rc_lookup.specs.Steps.{AreSameKeys}
 use Rattle.rc_chain.specs.declared.chains.Snap.{Snap}
 use Rattle.rc_shard.specs.declared.readers.PartitionReader.{PartitionReader}
 use Rattle.rc_shard.specs.declared.readers.Source.{Source}
-use Rattle.rc_shard.specs.Readers.{snaps_of}
+use Rattle.rc_shard.specs.Readers.{written_snaps_of}
 use Rattle.rc_shard.specs.Using.{LeavesBeside}
-use Rattle.rc_shard.specs.calls.Looking.{snap_in}
+use Rattle.rc_shard.specs.calls.Looking.{source_snap}
 use Rattle.rc_shard.specs.calls.Opened.{IsReaderPinned}
 use Rattle.rc_shard.specs.declared.shard.Shard.{Shard}
 use Rattle.rc_shard.specs.Knowing.{IsCachedWhole, IsKnownOnceOpened, IsPartitionRecent, IsRecentOnceHit}
@@ -33,7 +33,7 @@ use Rattle.rc_shard.specs.Opening.{IsOpenedAsTold, PinsPartition}
 use Rattle.rc_shard.specs.calls.Keeping.{TellsOf}
 
 -- its snapshots are those that were taken, and the chains were lent and are as they were
-pub pinned-in : (key : List ℕ) (u v : Unstored 131072) (m : Memory) (snaps : Snaps) (o : PartitionReader) → m ≡ v.chains → snaps_of o ≡ snaps →
+pub pinned-in : (key : List ℕ) (u v : Unstored 131072) (m : Memory) (snaps : Snaps) (o : PartitionReader) → m ≡ v.chains → written_snaps_of o ≡ snaps →
     ((schema : SchemaValue) (writes later : List Write) → HaveWrites schema u writes later → IsSnapshotOfKey key writes u.chains v.chains snaps.sealed) →
     ((schema : SchemaValue) (writes later : List Write) → HaveWrites schema u writes later → IsSnapshotOfKey key later u.chains v.chains snaps.active) →
     (mid : Memory) × IsTakenIf u.chains mid snaps.sealed × IsTakenIf mid v.chains snaps.active → AreSameKeys u v → PinsPartition key u (in_chains m v) o
@@ -48,7 +48,7 @@ pinned-in key u v m snaps o lent are sealed active exact keys =
 
 module _ (id : ℕ) (key : List ℕ) (slice : Slice) (readers : List (ℕ × PartitionReader)) (u : Unstored 131072) (readers' : List (ℕ × PartitionReader)) (v : Unstored 131072) where
   -- an opening that is answered is fine
-  pub told-opened : (others : List (ℕ × PartitionReader)) (asked : Unstored 131072) (source : Source) (r : Result Reply AllocError) → others ≡ readers → LeavesBeside (snap_in source) u.chains asked.chains → AreSameKeys u asked → IfOk r (λ reply. reply ≡ replies.Fine) → IfOk r (λ _. IsReaderPinned id key source others asked readers' v) →
+  pub told-opened : (others : List (ℕ × PartitionReader)) (asked : Unstored 131072) (source : Source) (r : Result Reply AllocError) → others ≡ readers → LeavesBeside (source_snap source) u.chains asked.chains → AreSameKeys u asked → IfOk r (λ reply. reply ≡ replies.Fine) → IfOk r (λ _. IsReaderPinned id key source others asked readers' v) →
       IfOk r (λ reply. IsOpenedAsTold (OpenRead id key slice) reply readers u readers' v)
   told-opened others asked source (Ok reply) same rest keys fine pins =
       subst (λ q. IsOpenedAsTold (OpenRead id key slice) q readers u readers' v) (sym fine)

@@ -23,7 +23,7 @@ use Rattle.rc_lookup.specs.Footprint.{AreInUse, HaveOneVersion, cache_snapshots,
 use Rattle.rc_lookup.specs.Readers.{taken_back}
 use Rattle.rc_lookup.specs.Saying.{Below, CacheSays}
 use Rattle.rc_lookup.specs.Staying.{HasSameContent}
-use Rattle.rc_shard.specs.Releasing.{IsCachedReleased, IsListed}
+use Rattle.rc_shard.specs.Releasing.{IsCachedReleased, IsChainListed}
 use Rattle.rc_shard.proofs.Chained.{chain-beside, chain-here, changed-beside, changed-now, none-is-none}
 use Rattle.rc_shard.proofs.Pinning.{HaveNoMore, pins-less, snapshots-less}
 
@@ -178,7 +178,7 @@ module _ (s : Snap) (old new : Memory) (h : HasCacheSnapshot old s.chain s.pin) 
         record { pin = subst (Pins t.pin) (sym same) there.pin; versions = ap (λ o. versions_in o t.pin) same; kind = ap kind_in same }
 
     -- a chain of which something is listed stays
-    stays : (id : ℕ) (k : KeptChain) → chain_at old id ≡ Some k → IsListed old id → (now : KeptChain) × (chain_at new id ≡ Some now) × HasSameContent k now
+    stays : (id : ℕ) (k : KeptChain) → chain_at old id ≡ Some k → IsChainListed old id → (now : KeptChain) × (chain_at new id ≡ Some now) × HasSameContent k now
     stays id k e listed = elim (decided id s.chain) [
       | inl same ↦ here-by ((now : KeptChain) × (chain_at new id ≡ Some now) × HasSameContent k now)
           (λ idle none. absurd (idle.unlisted listed.0 listed.1 (subst (λ i. Contains old.recency (member_at i listed.0 listed.1)) same listed.2)))

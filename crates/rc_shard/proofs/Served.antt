@@ -25,7 +25,7 @@ use Rattle.rc_paging.specs.Forms.{ByForm, held_by}
 use Rattle.rc_paging.specs.Pages.{StandCached, StandsCached}
 use Rattle.rc_machine.specs.State.{Reader, State, rest_of}
 use Rattle.rc_shard.specs.declared.readers.PartitionReader.{PartitionReader}
-use Rattle.rc_shard.specs.Readers.{AreTwo, IsCachedThere, IsOther, IsReadOver, IsServed, ShareNone, WasOpened, cached_of, cached_readers, count_of, holding, lies_below, snaps_of}
+use Rattle.rc_shard.specs.Readers.{AreTwo, IsCachedThere, IsOtherSnap, IsReadOver, IsServed, ShareNone, WasOpened, cached_of, cached_readers, number_of_snaps, holding, lies_below, written_snaps_of}
 use Rattle.rc_shard.specs.calls.Staying.{Staying}
 use Rattle.rc_shard.proofs.Places.{IsNowhere, IsPlace, in-range}
 
@@ -82,7 +82,7 @@ cached-still m n None pins h = tt
 cached-still m n (Some s) pins h = pins s.chain s.pin h
 
 -- also where another one was taken back
-pub cached-beside : (back : Option Snap) (m n : Memory) (o : Option Snap) → ((id pin : ℕ) → IfSome back (λ s. id ≡ s.chain → pin ≡ s.pin → ⊥) → HasCacheSnapshot m id pin → HasCacheSnapshot n id pin) → IfSome o (IsOther back) → IsCachedThere m o → IsCachedThere n o
+pub cached-beside : (back : Option Snap) (m n : Memory) (o : Option Snap) → ((id pin : ℕ) → IfSome back (λ s. id ≡ s.chain → pin ≡ s.pin → ⊥) → HasCacheSnapshot m id pin → HasCacheSnapshot n id pin) → IfSome o (IsOtherSnap back) → IsCachedThere m o → IsCachedThere n o
 cached-beside back m n None pins other h = tt
 cached-beside back m n (Some t) pins other h = pins t.chain t.pin other h
 
@@ -213,15 +213,15 @@ module _ (lines : PartReader → Memory → List Mutation → List OutLine → T
       over-form (Past o) r there sees h = tt
       over-form (Cached o) r there sees h = over-still st.schema new.schema m n (lies_below below o.held.cached) (Cached o) r opened.schema (stands-if n below stand o.held.cached there) sees h
 
-      pub still-served : (o : ℕ × PartitionReader) (r : ℕ × Reader) → StillSeeBoth (snaps_of o.1) m n → IsCachedThere n (cached_of o.1) → IsServed lines below st m o r → IsServed lines below new n o r
+      pub still-served : (o : ℕ × PartitionReader) (r : ℕ × Reader) → StillSeeBoth (written_snaps_of o.1) m n → IsCachedThere n (cached_of o.1) → IsServed lines below st m o r → IsServed lines below new n o r
       still-served o r sees there h =
           let form = stands-form n below stand o.1.reader there in
           record {
             id = h.id;
             key = h.key;
-            left = stays.left o.1.reader m n (lies_below below (cached_of o.1)) (rest_of r.1) form (both-same m n (snaps_of o.1) sees) h.left;
+            left = stays.left o.1.reader m n (lies_below below (cached_of o.1)) (rest_of r.1) form (both-same m n (written_snaps_of o.1) sees) h.left;
             over = over-form o.1.reader r.1 there sees h.over;
-            held = record { written = there-then m n (snaps_of o.1) h.held.written sees; two = h.held.two; cached = there };
+            held = record { written = there-then m n (written_snaps_of o.1) h.held.written sees; two = h.held.two; cached = there };
             opened = opened.opened o.1.tables r.1 h.opened;
           }
 
@@ -229,14 +229,14 @@ module _ (lines : PartReader → Memory → List Mutation → List OutLine → T
       all-served [] [] sees pins h = tt
       all-served [] (r ∷ rs) sees pins h = absurd h
       all-served (o ∷ os) [] sees pins h = absurd h
-      all-served (o ∷ os) (r ∷ rs) sees pins h = (still-served o r (both-still m n (snaps_of o.1) sees h.0.held.written) (cached-still m n (cached_of o.1) pins h.0.held.cached) h.0, all-served os rs sees pins h.1)
+      all-served (o ∷ os) (r ∷ rs) sees pins h = (still-served o r (both-still m n (written_snaps_of o.1) sees h.0.held.written) (cached-still m n (cached_of o.1) pins h.0.held.cached) h.0, all-served os rs sees pins h.1)
 
       -- ---- one is closed
 
       module _ (gone : HeldSnaps) (others : (s : Snap) → HasSnap m s → IsNoneOf gone.written s → StillSees s m n) (pins : (id pin : ℕ) → IfSome gone.cached (λ s. id ≡ s.chain → pin ≡ s.pin → ⊥) → HasCacheSnapshot m id pin → HasCacheSnapshot n id pin) where
         pub other-served : (o : ℕ × PartitionReader) (r : ℕ × Reader) → ShareNone gone (held_by o.1.reader) → IsServed lines below st m o r → IsServed lines below new n o r
         other-served o r share h =
-            still-served o r (beside-still gone.written (snaps_of o.1) m n others share.sealed share.active h.held.written) (cached-beside gone.cached m n (cached_of o.1) pins share.cached h.held.cached) h
+            still-served o r (beside-still gone.written (written_snaps_of o.1) m n others share.sealed share.active h.held.written) (cached-beside gone.cached m n (cached_of o.1) pins share.cached h.held.cached) h
 
         rest-served : (id first : ℕ) (os : List (ℕ × PartitionReader)) (rs : List (ℕ × Reader)) → (first == id) ≡ true → AllByRecursion (AreTwo (first, gone)) (map holding os) → AllZip (IsServed lines below st m) os rs → AllZip (IsServed lines below new n) os (filter (λ r. not (r.0 == id)) rs)
         rest-served id first [] [] mine two h = tt
@@ -347,15 +347,15 @@ module _ (lines : PartReader → Memory → List Mutation → List OutLine → T
   below-served below other st m (o ∷ os) (r ∷ rs) same h = (one-below below other st m o r same h.0, below-served below other st m os rs same h.1)
 
 -- a new reader shares no snapshot with one that was there
-pub share-fresh : (m : Memory) (new old : HeldSnaps) → ((s : Snap) → HasPin m s.chain s.pin → IsNoneOf new.written s) → AreThere m old.written → IfSome new.cached (IsOther old.cached) → ShareNone new old
+pub share-fresh : (m : Memory) (new old : HeldSnaps) → ((s : Snap) → HasPin m s.chain s.pin → IsNoneOf new.written s) → AreThere m old.written → IfSome new.cached (IsOtherSnap old.cached) → ShareNone new old
 share-fresh m new old fresh there apart = record {
   sealed = none-there new.written m old.written.sealed fresh there.sealed;
   active = none-there new.written m old.written.active fresh there.active;
   cached = each-back old.cached new.cached apart;
 }
 
-new-two : (m : Memory) (id : ℕ) (x : ℕ × PartitionReader) (os : List (ℕ × PartitionReader)) (k : ℕ) (d : ℕ × HeldSnaps) → AllByRecursion (λ o. AreThere m (snaps_of o.1)) os → IsNowhere id os → x.0 ≡ id → ((s : Snap) → HasPin m s.chain s.pin → IsNoneOf (snaps_of x.1) s) →
-    AllByRecursion (λ o. IfSome (cached_of x.1) (IsOther (cached_of o.1))) os → k < length (map holding os) → AreTwo (get_or (map holding os) k d) (holding x)
+new-two : (m : Memory) (id : ℕ) (x : ℕ × PartitionReader) (os : List (ℕ × PartitionReader)) (k : ℕ) (d : ℕ × HeldSnaps) → AllByRecursion (λ o. AreThere m (written_snaps_of o.1)) os → IsNowhere id os → x.0 ≡ id → ((s : Snap) → HasPin m s.chain s.pin → IsNoneOf (written_snaps_of x.1) s) →
+    AllByRecursion (λ o. IfSome (cached_of x.1) (IsOtherSnap (cached_of o.1))) os → k < length (map holding os) → AreTwo (get_or (map holding os) k d) (holding x)
 new-two m id x [] k d there none is fresh apart l = absurd (omega (arith, l))
 new-two m id x (o ∷ os) zero d there none is fresh apart l = record {
   ids = λ e. let a = none.0 in let b = e ∙ is in absurd (grind (arith, nat_tests, a, b));
@@ -363,8 +363,8 @@ new-two m id x (o ∷ os) zero d there none is fresh apart l = record {
 }
 new-two m id x (o ∷ os) (suc k) d there none is fresh apart l = new-two m id x os k d there.1 none.1 is fresh apart.1 (omega (arith, l))
 
-pub more-two : (m : Memory) (id : ℕ) (x : ℕ × PartitionReader) (os : List (ℕ × PartitionReader)) → AllByRecursion (λ o. AreThere m (snaps_of o.1)) os → IsNowhere id os → x.0 ≡ id → ((s : Snap) → HasPin m s.chain s.pin → IsNoneOf (snaps_of x.1) s) →
-    AllByRecursion (λ o. IfSome (cached_of x.1) (IsOther (cached_of o.1))) os → AllPairs AreTwo (map holding os) → AllPairs AreTwo (map holding (os ++ x ∷ []))
+pub more-two : (m : Memory) (id : ℕ) (x : ℕ × PartitionReader) (os : List (ℕ × PartitionReader)) → AllByRecursion (λ o. AreThere m (written_snaps_of o.1)) os → IsNowhere id os → x.0 ≡ id → ((s : Snap) → HasPin m s.chain s.pin → IsNoneOf (written_snaps_of x.1) s) →
+    AllByRecursion (λ o. IfSome (cached_of x.1) (IsOtherSnap (cached_of o.1))) os → AllPairs AreTwo (map holding os) → AllPairs AreTwo (map holding (os ++ x ∷ []))
 more-two m id x os there none is fresh apart two = subst (AllPairs AreTwo) (sym (map-append holding os (x ∷ []))) (all_pairs_push AreTwo (map holding os) (holding x) two (λ k d l. new-two m id x os k d there none is fresh apart l))
 
 -- one fewer
@@ -407,7 +407,7 @@ map-set f [] k y = refl
 map-set f (x ∷ xs) zero y = refl
 map-set f (x ∷ xs) (suc k) y = ap (λ ys. f x ∷ ys) (map-set f xs k y)
 
-none-other : (o : Option Snap) → IfSome o (IsOther None)
+none-other : (o : Option Snap) → IfSome o (IsOtherSnap None)
 none-other None = tt
 none-other (Some s) = tt
 
@@ -422,7 +422,7 @@ module _ (x y : ℕ × HeldSnaps) (same : y.0 ≡ x.0) (less : y.1 ≡ record { 
   less-behind : (z : ℕ × HeldSnaps) → AreTwo z x → AreTwo z y
   less-behind z h = record { ids = λ e. h.ids (e ∙ same); snaps = subst (ShareNone z.1) (sym less) (record { sealed = h.snaps.sealed; active = h.snaps.active; cached = tt }) }
 
-pub gone-two : (id at : ℕ) (d x : ℕ × PartitionReader) (os : List (ℕ × PartitionReader)) → IsPlace id os at → x.0 ≡ (get_or os at d).0 → held_by x.1.reader ≡ record { cached = None; written = snaps_of (get_or os at d).1 } → AllPairs AreTwo (map holding os) → AllPairs AreTwo (map holding (set os at x))
+pub gone-two : (id at : ℕ) (d x : ℕ × PartitionReader) (os : List (ℕ × PartitionReader)) → IsPlace id os at → x.0 ≡ (get_or os at d).0 → held_by x.1.reader ≡ record { cached = None; written = written_snaps_of (get_or os at d).1 } → AllPairs AreTwo (map holding os) → AllPairs AreTwo (map holding (set os at x))
 gone-two id at d x os p same less two =
     let here : get_or (map holding os) at (holding d) ≡ holding (get_or os at d) = map-at holding os at d in
     subst (AllPairs AreTwo) (sym (map-set holding os at x)) (set-pairs AreTwo (map holding os) at (holding x) (holding d)
@@ -432,9 +432,9 @@ gone-two id at d x os p same less two =
 -- ---- how many hold a snapshot of the row cache
 
 abbrev cached-in : ℕ × PartitionReader → ℕ
-cached-in o = count_of (cached_of o.1)
+cached-in o = number_of_snaps (cached_of o.1)
 
-one-cached : (o : Option Snap) (few all long : ℕ) → few ≤ long → all ≡ count_of o + few → all ≤ suc long
+one-cached : (o : Option Snap) (few all long : ℕ) → few ≤ long → all ≡ number_of_snaps o + few → all ≤ suc long
 one-cached None few all long h e = omega (arith, h, e)
 one-cached (Some s) few all long h e = omega (arith, h, e)
 
@@ -442,15 +442,15 @@ pub few-cached : (os : List (ℕ × PartitionReader)) → cached_readers os ≤ 
 few-cached [] = omega arith
 few-cached (o ∷ os) = let more = few-cached os in let sum = sum_by-cons cached-in o os in one-cached (cached_of o.1) (cached_readers os) (cached_readers (o ∷ os)) (length os) more sum
 
-pub cached-set : (at : ℕ) (d x : ℕ × PartitionReader) (os : List (ℕ × PartitionReader)) → at < length os → cached_readers (set os at x) + count_of (cached_of (get_or os at d).1) ≡ cached_readers os + count_of (cached_of x.1)
+pub cached-set : (at : ℕ) (d x : ℕ × PartitionReader) (os : List (ℕ × PartitionReader)) → at < length os → cached_readers (set os at x) + number_of_snaps (cached_of (get_or os at d).1) ≡ cached_readers os + number_of_snaps (cached_of x.1)
 cached-set at d x [] l = absurd (omega (arith, l))
 cached-set zero d x (o ∷ os) l = let a = sum_by-cons cached-in x os in let b = sum_by-cons cached-in o os in omega (arith, a, b)
 cached-set (suc at) d x (o ∷ os) l = let a = sum_by-cons cached-in o (set os at x) in let b = sum_by-cons cached-in o os in let more = cached-set at d x os (omega (arith, l)) in omega (arith, a, b, more)
 
-pub cached-removed : (at : ℕ) (d : ℕ × PartitionReader) (os : List (ℕ × PartitionReader)) → at < length os → cached_readers (remove os at) + count_of (cached_of (get_or os at d).1) ≡ cached_readers os
+pub cached-removed : (at : ℕ) (d : ℕ × PartitionReader) (os : List (ℕ × PartitionReader)) → at < length os → cached_readers (remove os at) + number_of_snaps (cached_of (get_or os at d).1) ≡ cached_readers os
 cached-removed at d [] l = absurd (omega (arith, l))
 cached-removed zero d (o ∷ os) l = let b = sum_by-cons cached-in o os in omega (arith, b)
 cached-removed (suc at) d (o ∷ os) l = let a = sum_by-cons cached-in o (remove os at) in let b = sum_by-cons cached-in o os in let more = cached-removed at d os (omega (arith, l)) in omega (arith, a, b, more)
 
-pub cached-more : (x : ℕ × PartitionReader) (os : List (ℕ × PartitionReader)) → cached_readers (os ++ x ∷ []) ≡ cached_readers os + count_of (cached_of x.1)
+pub cached-more : (x : ℕ × PartitionReader) (os : List (ℕ × PartitionReader)) → cached_readers (os ++ x ∷ []) ≡ cached_readers os + number_of_snaps (cached_of x.1)
 cached-more x os = sum_by_push cached-in os x

@@ -42,7 +42,7 @@ use Rattle.rc_machine.specs.laws.Reading.{rest_past}
 use Rattle.rc_shard.specs.declared.readers.PartitionReader.{PartitionReader}
 use Rattle.rc_shard.specs.declared.readers.Source.{Source}
 use Rattle.rc_shard.specs.declared.shard.Shard.{Shard}
-use Rattle.rc_shard.specs.Readers.{AreHeld, IsReadOver, IsServed, WasOpened, cached_of, cached_readers, count_of, lies_below}
+use Rattle.rc_shard.specs.Readers.{AreHeldThere, IsReadOver, IsServed, WasOpened, cached_of, cached_readers, number_of_snaps, lies_below}
 use Rattle.rc_shard.specs.Stands.{AreFor, Stands}
 use Rattle.rc_shard.specs.calls.Keeping.{StandsForTheSame, TellsOf}
 use Rattle.rc_shard.specs.calls.Caching.{IsFull}
@@ -114,7 +114,7 @@ set-twice id one two (q ∷ rs) = set-at id one two q rs (q.0 == id) refl (set-t
 
 -- as many hold a snapshot of the row cache
 pub many-same : (at : ℕ) (d x : ℕ × PartitionReader) (os : List (ℕ × PartitionReader)) → at < length os → held_by x.1.reader ≡ held_by (get_or os at d).1.reader → cached_readers (set os at x) ≡ cached_readers os
-many-same at d x os l same = let sum = cached-set at d x os l in let e = ap (λ (g : HeldSnaps). count_of g.cached) same in omega (arith, sum, e)
+many-same at d x os l same = let sum = cached-set at d x os l in let e = ap (λ (g : HeldSnaps). number_of_snaps g.cached) same in omega (arith, sum, e)
 
 -- a reader that holds the same over the row cache
 module _ (below : ℕ → List Mutation) (schema : SchemaValue) (m : Memory) where
@@ -284,7 +284,7 @@ module _ (lines : PartReader → Memory → List Mutation → List OutLine → T
           key = kept.1 ∙ h.key;
           left = left;
           over = over-past s.cached.below m.schema k.unstored.chains count d.1.reader x.1.reader r kept.3 over h.over;
-          held = subst (AreHeld k.unstored.chains) (sym kept.3) h.held;
+          held = subst (AreHeldThere k.unstored.chains) (sym kept.3) h.held;
           opened = subst (λ (first : List TableInfo). WasOpened m first (reader_past count r)) (sym kept.2) (record { later = h.opened.later; are = h.opened.are; listed = h.opened.listed; said = h.opened.said });
         } in
         let same : x.0 ≡ (get_or k.readers.items at d).0 = kept.0 ∙ ap (λ (o : ℕ × PartitionReader). o.0) (sym here) in
@@ -314,7 +314,7 @@ module _ (lines : PartReader → Memory → List Mutation → List OutLine → T
           key = kept.1 ∙ h.key;
           left = subst (λ (o : Option Snap). lines x.1.reader k.unstored.chains (lies_below s.cached.below o) (rest_of q.1)) (sym snap) (left (rest_of q.1) (lies_below s.cached.below (cached_of d.1)) h.left);
           over = over-same s.cached.below m.schema k.unstored.chains d.1.reader x.1.reader q.1 kept.3 (over m.schema) h.over;
-          held = subst (AreHeld k.unstored.chains) (sym kept.3) h.held;
+          held = subst (AreHeldThere k.unstored.chains) (sym kept.3) h.held;
           opened = subst (λ (first : List TableInfo). WasOpened m first q.1) (sym kept.2) h.opened;
         } in
         let same : x.0 ≡ (get_or k.readers.items at d).0 = kept.0 ∙ ap (λ (o : ℕ × PartitionReader). o.0) (sym here) in

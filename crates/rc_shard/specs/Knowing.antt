@@ -38,7 +38,7 @@ use Rattle.rc_chain.specs.declared.chains.Snap.{Snap}
 use Rattle.rc_paging.specs.Pages.{IsKnownWhole}
 use Rattle.rc_shard.specs.declared.readers.PartitionReader.{PartitionReader}
 use Rattle.rc_shard.specs.Readers.{cached_of}
-use Rattle.rc_shard.specs.Releasing.{IsCachedReleased, IsListed}
+use Rattle.rc_shard.specs.Releasing.{IsCachedReleased, IsChainListed}
 use Rattle.rc_shard.specs.declared.shard.Shard.{Shard}
 
 -- the row cache knows all of a partition: its static row, and each row and each gap between rows
@@ -107,7 +107,7 @@ pub record IsUnwritten (k : Shard) (key : List ℕ) : Type 0 where
 
 -- something of the chain of a partition could be evicted; of others no position is known
 abbrev pub IsPartitionListed : Shard → List ℕ → Type 0
-IsPartitionListed k key = IsSomeAnd (entry_number k.cache.entries key) (IsListed k.unstored.chains)
+IsPartitionListed k key = IsSomeAnd (entry_number k.cache.entries key) (IsChainListed k.unstored.chains)
 
 -- a flush leaves the partitions that are written in no memtable; a read and a closing, with which a snapshot may be taken back, those of which something could be evicted; and any other command each
 abbrev pub Spares : Command → Shard → List ℕ → Type 0

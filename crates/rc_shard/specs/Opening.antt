@@ -15,14 +15,14 @@ use Rattle.rc_lookup.specs.Memtables.{HaveWrites}
 use Rattle.rc_lookup.specs.Readers.{IsSnapshotOfKey, IsTakenIf}
 use Rattle.rc_lookup.specs.Steps.{AreSameKeys}
 use Rattle.rc_shard.specs.declared.readers.PartitionReader.{PartitionReader}
-use Rattle.rc_shard.specs.Readers.{cached_of, snaps_of}
+use Rattle.rc_shard.specs.Readers.{cached_of, written_snaps_of}
 use Rattle.rc_shard.specs.Using.{LeavesBeside}
 
 -- A reader of a partition holds a snapshot of what is sealed of it, and one of what is written since, each exactly where a write names it. To take these is all that is done to the chains: no version is made or changed, no object comes to be, and none moves.
 pub record PinsPartition (key : List ℕ) (old new : Unstored 131072) (o : PartitionReader) : Type 0 where
-  pub sealed : (schema : SchemaValue) (writes later : List Write) → HaveWrites schema old writes later → IsSnapshotOfKey key writes old.chains new.chains (snaps_of o).sealed
-  pub active : (schema : SchemaValue) (writes later : List Write) → HaveWrites schema old writes later → IsSnapshotOfKey key later old.chains new.chains (snaps_of o).active
-  pub exact : (mid : Memory) × IsTakenIf old.chains mid (snaps_of o).sealed × IsTakenIf mid new.chains (snaps_of o).active
+  pub sealed : (schema : SchemaValue) (writes later : List Write) → HaveWrites schema old writes later → IsSnapshotOfKey key writes old.chains new.chains (written_snaps_of o).sealed
+  pub active : (schema : SchemaValue) (writes later : List Write) → HaveWrites schema old writes later → IsSnapshotOfKey key later old.chains new.chains (written_snaps_of o).active
+  pub exact : (mid : Memory) × IsTakenIf old.chains mid (written_snaps_of o).sealed × IsTakenIf mid new.chains (written_snaps_of o).active
   pub keys : AreSameKeys old new
 
 -- Behind the open readers stands one more, with this id, which pins a partition; before, the row cache was asked what the tables say, and filled where it does not know it: that leaves all else as it was, but for the snapshot of the row cache that the reader holds then, if it holds one.

@@ -1,8 +1,8 @@
 -- The open readers of a shard beside those of the machine.
---     snaps_of, cached_of    the snapshots that a reader holds: of what is written, and of the row cache
---     AreOfTwo, AreHeld      its snapshots are there
+--     written_snaps_of, cached_of    the snapshots that a reader holds: of what is written, and of the row cache
+--     AreOfTwo, AreHeldThere      its snapshots are there
 --     ShareNone, AreTwo      no two readers share a snapshot or an id
---     count_of, cached_readers    how many hold a snapshot of the row cache
+--     number_of_snaps, cached_readers    how many hold a snapshot of the row cache
 --     WasOpened              the tables that a reader was opened over are the first ones
 --     IsReadOver             a reader over the row cache reads what the machine's does
 --     IsServed               an open reader is the machine's
@@ -31,8 +31,8 @@ use Rattle.rc_machine.specs.State.{Reader, State, rest_of}
 use Rattle.rc_shard.specs.declared.readers.PartitionReader.{PartitionReader}
 
 -- the snapshots that a reader holds of what stands in no table
-abbrev pub snaps_of : PartitionReader → Snaps
-snaps_of o = (held_by o.reader).written
+abbrev pub written_snaps_of : PartitionReader → Snaps
+written_snaps_of o = (held_by o.reader).written
 
 -- the one that it holds of the row cache, if it reads over that
 abbrev pub cached_of : PartitionReader → Option Snap
@@ -47,20 +47,20 @@ abbrev pub IsCachedThere : Memory → Option Snap → Type 0
 IsCachedThere m snap = IfSome snap (λ s. HasCacheSnapshot m s.chain s.pin)
 
 -- what a reader holds is there, and its snapshots of what is written are of two chains
-pub record AreHeld (m : Memory) (held : HeldSnaps) : Type 0 where
+pub record AreHeldThere (m : Memory) (held : HeldSnaps) : Type 0 where
   pub written : AreThere m held.written
   pub two : AreOfTwo held.written
   pub cached : IsCachedThere m held.cached
 
 -- a snapshot is not this one
-abbrev pub IsOther : Option Snap → Snap → Type 0
-IsOther snap t = IfSome snap (λ s. t.chain ≡ s.chain → t.pin ≡ s.pin → ⊥)
+abbrev pub IsOtherSnap : Option Snap → Snap → Type 0
+IsOtherSnap snap t = IfSome snap (λ s. t.chain ≡ s.chain → t.pin ≡ s.pin → ⊥)
 
 -- no snapshot of the one is of the other
 pub record ShareNone (these those : HeldSnaps) : Type 0 where
   pub sealed : IfSome those.written.sealed (IsNoneOf these.written)
   pub active : IfSome those.written.active (IsNoneOf these.written)
-  pub cached : IfSome those.cached (IsOther these.cached)
+  pub cached : IfSome those.cached (IsOtherSnap these.cached)
 
 -- an open reader's id, and its snapshots
 abbrev pub holding : ℕ × PartitionReader → ℕ × HeldSnaps
@@ -72,13 +72,13 @@ pub record AreTwo (x y : ℕ × HeldSnaps) : Type 0 where
   pub snaps : ShareNone x.1 y.1
 
 -- how many snapshots there are of one that may be
-abbrev pub count_of : Option Snap → ℕ
-count_of None = 0
-count_of (Some s) = 1
+abbrev pub number_of_snaps : Option Snap → ℕ
+number_of_snaps None = 0
+number_of_snaps (Some s) = 1
 
 -- how many open readers hold a snapshot of the row cache
 abbrev pub cached_readers : List (ℕ × PartitionReader) → ℕ
-cached_readers readers = sum_by (λ o. count_of (cached_of o.1)) readers
+cached_readers readers = sum_by (λ o. number_of_snaps (cached_of o.1)) readers
 
 -- what lies below the snapshot of the row cache of a reader, if it reads over that
 abbrev pub lies_below : (ℕ → List Mutation) → Option Snap → List Mutation
@@ -116,5 +116,5 @@ module _ (lines : PartReader → Memory → List Mutation → List OutLine → T
     pub key : o.1.key ≡ r.1.key
     pub left : lines o.1.reader m (lies_below below (cached_of o.1)) (rest_of r.1)
     pub over : ByForm (λ c. IsReadOver st.schema (lies_below below c.held.cached) m c r.1) (λ _. ⊤) o.1.reader
-    pub held : AreHeld m (held_by o.1.reader)
+    pub held : AreHeldThere m (held_by o.1.reader)
     pub opened : WasOpened st o.1.tables r.1

@@ -1,7 +1,7 @@
 -- What becomes of the row cache where a snapshot of one of its chains is taken back, and of its snapshots by other calls.
---     IsListed          something of a chain could be evicted
+--     IsChainListed          something of a chain could be evicted
 --     IsCachedReleased  a snapshot of a chain of the cache was taken back
---     IsGivenBack       so it was, where there is one
+--     IsSnapGivenBack       so it was, where there is one
 --     KeepsSnapshots    each snapshot of a chain of the cache is there still, and they are no more
 use Rattle.std.specs.Prelude.{◌≡◌, ◌≤◌, ◌+◌, ℕ, List, Option, Some, Contains, MatchOption, length}
 use Rattle.rc_position.specs.declared.positions.Pos.{Pos}
@@ -19,8 +19,8 @@ use Rattle.rc_lookup.specs.Saying.{Below, CacheSays}
 use Rattle.rc_lookup.specs.Staying.{HasSameContent}
 
 -- something of a chain could be evicted: it stands in the recency list
-abbrev pub IsListed : Memory → ℕ → Type 0
-IsListed m id = (j : ℕ) × (at : Option Pos) × Contains m.recency (member_at id j at)
+abbrev pub IsChainListed : Memory → ℕ → Type 0
+IsChainListed m id = (j : ℕ) × (at : Option Pos) × Contains m.recency (member_at id j at)
 
 -- A snapshot of a chain of the cache was taken back, and its chain went where it was in use by nothing else. The cache says what it said, its entries are the same, and each of its chains has one version and is in use where that was so. Each chain of a memtable is as it was, and its snapshots see what they saw; each other snapshot of the cache is there still, none came to be, and there is one less. Memtables take no more, the region has as many segments, nothing is counted, and the recency list is as it was. A chain of which something could be evicted is there still with what it had, and each other chain is as it was.
 pub record IsCachedReleased (s : Snap) (old new : Memory) : Type 0 where
@@ -38,12 +38,12 @@ pub record IsCachedReleased (s : Snap) (old new : Memory) : Type 0 where
   pub counts : new.counts ≡ old.counts
   pub fell : NoCountFell old new
   pub recency : new.recency ≡ old.recency
-  pub still : (id : ℕ) (k : KeptChain) → chain_at old id ≡ Some k → k.chain.kind ≡ Cache → IsListed old id → (now : KeptChain) × (chain_at new id ≡ Some now) × HasSameContent k now
+  pub still : (id : ℕ) (k : KeptChain) → chain_at old id ≡ Some k → k.chain.kind ≡ Cache → IsChainListed old id → (now : KeptChain) × (chain_at new id ≡ Some now) × HasSameContent k now
   pub beside : (id : ℕ) → (id ≡ s.chain → ⊥) → chain_at new id ≡ chain_at old id
 
 -- a snapshot of a chain of the cache was taken back, where there is one
-abbrev pub IsGivenBack : Option Snap → Memory → Memory → Type 0
-IsGivenBack snap old new = MatchOption snap (new ≡ old) (λ s. IsCachedReleased s old new)
+abbrev pub IsSnapGivenBack : Option Snap → Memory → Memory → Type 0
+IsSnapGivenBack snap old new = MatchOption snap (new ≡ old) (λ s. IsCachedReleased s old new)
 
 -- each snapshot of a chain of the cache is there still, and they are no more than there were
 pub record KeepsSnapshots (old new : Memory) : Type 0 where

@@ -12,7 +12,7 @@ ghost use Rattle.rc_lookup.specs.Leaving.{AreCachesSame};
 ghost use Rattle.rc_lookup.specs.Partitions.{AreAsBefore};
 ghost use Rattle.rc_lookup.specs.Readers.{IsReleased, IsTakenIf};
 ghost use Rattle.rc_shard.specs.Readers.{IsCachedThere};
-ghost use Rattle.rc_shard.specs.Releasing.{IsCachedReleased, IsGivenBack, KeepsSnapshots};
+ghost use Rattle.rc_shard.specs.Releasing.{IsCachedReleased, IsSnapGivenBack, KeepsSnapshots};
 
 use rc_lookup::Chains;
 use rc_lookup::entries_laws::{
@@ -49,7 +49,7 @@ pub(crate) fn release_cached(chains: &mut Chains<131_072>, snap: Snap)
 /// Takes a snapshot of a chain of the row cache back, where there is one.
 pub(crate) fn give_back(chains: &mut Chains<131_072>, snap: Option<Snap>)
     requires { IsCachedThere chains.old snap }
-    ensures { IsGivenBack snap chains.old chains.new }
+    ensures { IsSnapGivenBack snap chains.old chains.new }
 {
     if let Some(snap) = snap {
         release_cached(chains, snap);

@@ -43,12 +43,12 @@ ghost use Rattle.rc_shard.specs.Evicting.{IsEvictedAsTold, IsLostAsTold};
 ghost use Rattle.rc_shard.specs.Losing.{IsLostInCrowd, LosesForWrite, LosesInCrowd};
 ghost use Rattle.rc_shard.specs.Knowing.{AsksNothingWhereKnown, IsCachedWhole, IsKnownOnceOpened, IsKnownStill, IsPartitionRecent, IsRecentOnceHit, IsTouchedAsGiven, StaysKnown};
 ghost use Rattle.rc_shard.specs.Opening.{IsOpenedAsTold, PinsPartition};
-ghost use Rattle.rc_shard.specs.Readers.{AreHeld, AreOfTwo, AreTwo, IsCachedThere, cached_of, count_of, holding, snaps_of};
-ghost use Rattle.rc_shard.specs.Releasing.{IsGivenBack};
+ghost use Rattle.rc_shard.specs.Readers.{AreHeldThere, AreOfTwo, AreTwo, IsCachedThere, cached_of, number_of_snaps, holding, written_snaps_of};
+ghost use Rattle.rc_shard.specs.Releasing.{IsSnapGivenBack};
 ghost use Rattle.rc_shard.specs.Stands.{IsFullAsTold, StandsBeside};
 ghost use Rattle.rc_shard.specs.calls.Caching.{LeavesCache};
 ghost use Rattle.rc_shard.specs.calls.Keeping.{CountsStay, StandsForTheSame, TellsOf};
-ghost use Rattle.rc_shard.specs.calls.Looking.{AreKnownStill, IsCacheLeft, IsCacheUsed, IsEntrySnapshot, IsSourceIn, KeepsOver, UnlessMemory, snap_in, snap_taken, source_taken};
+ghost use Rattle.rc_shard.specs.calls.Looking.{AreKnownStill, IsCacheLeft, IsCacheUsed, IsEntrySnapshot, IsSourceIn, KeepsOver, UnlessMemory, source_snap, snap_taken, source_taken};
 ghost use Rattle.rc_shard.specs.calls.Opened.{AreBothReleased, AreHeldReleased, IsOpenedOver, IsReadSource, IsReadWhole, IsReaderPinned, IsSourceLetGo, TellsBelow};
 ghost use Rattle.rc_shard.specs.calls.Reading.{IsBesideChains, IsGonePastAt, IsPaged, IsPagedBeside, IsGoneOn};
 ghost use Rattle.rc_shard.specs.calls.Storing.{IsFlushAnswered, KeepsUnstored};
@@ -394,7 +394,7 @@ impl Shard {
         ensures whole { OnOk result (NoneLost (losses self.old.unstored.chains) (losses self.new.unstored.chains) → IsCachedWhole self.new key.now) }
         ensures stays { UnlessMemory result (AreKnownStill self.old self.new) }
         ensures hit { OnOk result (IsCachedWhole self.old key.now → IsPartitionRecent key.now self.old self.new) }
-        ensures keeps { (m : State) → ⟦<Shard as Machine>⟧.stands (W.files store.old) self.old m → StandsBeside ⟦<PartReader as LeavesOver<Chains<131_072>>>⟧.lines (count_of (source_taken result)) (W.files store.old) self.new m }
+        ensures keeps { (m : State) → ⟦<Shard as Machine>⟧.stands (W.files store.old) self.old m → StandsBeside ⟦<PartReader as LeavesOver<Chains<131_072>>>⟧.lines (number_of_snaps (source_taken result)) (W.files store.old) self.new m }
         ensures loses { LosesWhereCrowded 131072 1 self.old.unstored.chains self.new.unstored.chains }
         ensures beside { IsCacheUsed (source_taken result) self.old self.new }
         ensures damaged { IfErr result (IsDamageOf self.old.folder.schema key.now self.old.folder.infos) }
@@ -417,7 +417,7 @@ impl Shard {
         ensures whole { IfOk result (λ o. IfSome o (λ _. IsCachedWhole self.new key.now)) }
         ensures stays { (q : List ℕ) → IsKnownStill q self.old self.new }
         ensures hit { IfOk result (λ o. IfSome o (λ _. IsPartitionRecent key.now self.old self.new)) }
-        ensures keeps { (files : Option Files) (m : State) → ⟦<Shard as Machine>⟧.stands files self.old m → StandsBeside ⟦<PartReader as LeavesOver<Chains<131_072>>>⟧.lines (count_of (snap_taken result)) files self.new m }
+        ensures keeps { (files : Option Files) (m : State) → ⟦<Shard as Machine>⟧.stands files self.old m → StandsBeside ⟦<PartReader as LeavesOver<Chains<131_072>>>⟧.lines (number_of_snaps (snap_taken result)) files self.new m }
         ensures loses { LosesWhereCrowded 131072 0 self.old.unstored.chains self.new.unstored.chains }
         ensures beside { IsCacheUsed (snap_taken result) self.old self.new }
     {
@@ -438,7 +438,7 @@ impl Shard {
         ensures says { (m : State) → ⟦<Shard as Machine>⟧.stands (W.files store.old) self.old m → IfOk result (IsSourceIn self.new m key.now) }
         ensures whole { OnOk result (NoneLost (losses self.old.unstored.chains) (losses self.new.unstored.chains) → IsCachedWhole self.new key.now) }
         ensures stays { UnlessMemory result (AreKnownStill self.old self.new) }
-        ensures keeps { (m : State) → ⟦<Shard as Machine>⟧.stands (W.files store.old) self.old m → StandsBeside ⟦<PartReader as LeavesOver<Chains<131_072>>>⟧.lines (count_of (source_taken result)) (W.files store.old) self.new m }
+        ensures keeps { (m : State) → ⟦<Shard as Machine>⟧.stands (W.files store.old) self.old m → StandsBeside ⟦<PartReader as LeavesOver<Chains<131_072>>>⟧.lines (number_of_snaps (source_taken result)) (W.files store.old) self.new m }
         ensures loses { LosesWhereCrowded 131072 1 self.old.unstored.chains self.new.unstored.chains }
         ensures beside { IsCacheUsed (source_taken result) self.old self.new }
         ensures damaged { IfErr result (IsDamageOf self.old.folder.schema key.now self.old.folder.infos) }
@@ -463,7 +463,7 @@ impl Shard {
         ensures refused { IfErr result (λ error. error ≡ StreamErr.NoMemory) }
         ensures whole { OnOk result (NoneLost (losses self.old.unstored.chains) (losses self.new.unstored.chains) → IsCachedWhole self.new key.now) }
         ensures stays { OnOk result (AreKnownStill self.old self.new) }
-        ensures keeps { (files : Option Files) (m : State) (said : List Change) → ⟦<Shard as Machine>⟧.stands files self.old m → IsSaid m key.now said → IsJoinOf read.now said → StandsBeside ⟦<PartReader as LeavesOver<Chains<131_072>>>⟧.lines (count_of (source_taken result)) files self.new m }
+        ensures keeps { (files : Option Files) (m : State) (said : List Change) → ⟦<Shard as Machine>⟧.stands files self.old m → IsSaid m key.now said → IsJoinOf read.now said → StandsBeside ⟦<PartReader as LeavesOver<Chains<131_072>>>⟧.lines (number_of_snaps (source_taken result)) files self.new m }
         ensures loses { LosesWhereCrowded 131072 1 self.old.unstored.chains self.new.unstored.chains }
         ensures beside { IsCacheUsed (source_taken result) self.old self.new }
     {
@@ -485,18 +485,18 @@ impl Shard {
         opening: Opening,
         source: Source,
     ) -> Result<Reply, AllocError>
-        requires stands { (files : Option Files) × (m : State) × StandsBeside ⟦<PartReader as LeavesOver<Chains<131_072>>>⟧.lines (count_of (snap_in source)) files self.old m × IsSourceIn self.old m opening.key source }
+        requires stands { (files : Option Files) × (m : State) × StandsBeside ⟦<PartReader as LeavesOver<Chains<131_072>>>⟧.lines (number_of_snaps (source_snap source)) files self.old m × IsSourceIn self.old m opening.key source }
         requires tables { opening.tables ≡ self.old.folder.infos }
         requires place { length self.old.readers.items < vec_capacity self.old.readers }
         requires unused { position (λ reader. reader.0 == id) self.old.readers.items ≡ None }
         ensures fine { IfOk result (λ reply. reply ≡ Reply.Fine) }
         ensures pins { IfOk result (λ _. IsReaderPinned id opening.key source self.old.readers.items self.old.unstored self.new.readers.items self.new.unstored) }
-        ensures opened { (files : Option Files) (m : State) → StandsBeside ⟦<PartReader as LeavesOver<Chains<131_072>>>⟧.lines (count_of (snap_in source)) files self.old m → IsSourceIn self.old m opening.key source →
+        ensures opened { (files : Option Files) (m : State) → StandsBeside ⟦<PartReader as LeavesOver<Chains<131_072>>>⟧.lines (number_of_snaps (source_snap source)) files self.old m → IsSourceIn self.old m opening.key source →
             (said : List Change) × IsSaid m opening.key said × IfOk result (λ _. ⟦<Shard as Machine>⟧.stands files self.new (record m { readers = m.readers ++ (id, reader_with m opening.key opening.slice said) ∷ [] })) }
         ensures stays { IfOk result (λ _. (q : List ℕ) → IsKnownStill q self.old self.new) }
         ensures recency { IfOk result (λ _. (self.new.cache.entries ≡ self.old.cache.entries) × (self.new.unstored.chains.recency ≡ self.old.unstored.chains.recency)) }
         ensures loses { OnOk result (LosesWhereCrowded 131072 0 self.old.unstored.chains self.new.unstored.chains) }
-        ensures err { (files : Option Files) (m : State) → StandsBeside ⟦<PartReader as LeavesOver<Chains<131_072>>>⟧.lines (count_of (snap_in source)) files self.old m → IsSourceIn self.old m opening.key source → OnErr result (⟦<Shard as Machine>⟧.stands files self.new m) }
+        ensures err { (files : Option Files) (m : State) → StandsBeside ⟦<PartReader as LeavesOver<Chains<131_072>>>⟧.lines (number_of_snaps (source_snap source)) files self.old m → IsSourceIn self.old m opening.key source → OnErr result (⟦<Shard as Machine>⟧.stands files self.new m) }
         ensures counts { CountsStay self.old self.new }
     {
         a_reader_stays();
@@ -715,18 +715,18 @@ fn open_in(
     source: Source,
 ) -> Result<PartitionReader, AllocError>
     requires kept { (schema : SchemaValue) × (writes : List Written) × (later : List Written) × HaveWrites schema unstored.old writes later × AreChangesOf schema (changes_to opening.key writes) × AreChangesOf schema (changes_to opening.key later) }
-    requires there { IsCachedThere unstored.old.chains (snap_in source) }
+    requires there { IsCachedThere unstored.old.chains (source_snap source) }
     requires read { IsReadWhole source }
     ensures gives { (schema : SchemaValue) (writes later : List Written) (below said : List Change) → HaveWrites schema unstored.old writes later → AreChangesOf schema (changes_to opening.key writes) → AreChangesOf schema (changes_to opening.key later) → AreChangesOf schema below → TellsBelow unstored.new.chains source below said →
         IfOk result (IsOpenedOver ⟦<PartReader as LeavesOver<Chains<131_072>>>⟧.lines schema unstored.new.chains opening.slice below said (changes_to opening.key writes) (changes_to opening.key later)) }
-    ensures held { IfOk result (λ o. AreHeld unstored.new.chains (held_by o.reader)) }
-    ensures snap { IfOk result (λ o. cached_of o ≡ snap_in source) }
+    ensures held { IfOk result (λ o. AreHeldThere unstored.new.chains (held_by o.reader)) }
+    ensures snap { IfOk result (λ o. cached_of o ≡ source_snap source) }
     ensures pins { IfOk result (PinsPartition opening.key unstored.old unstored.new) }
     ensures key { IfOk result (λ o. o.key ≡ opening.key) }
     ensures tables { IfOk result (λ o. o.tables ≡ opening.tables) }
-    ensures fresh { IfOk result (λ o. (s : Snapshot) → HasPin unstored.old.chains s.chain s.pin → IsNoneOf (snaps_of o) s) }
+    ensures fresh { IfOk result (λ o. (s : Snapshot) → HasPin unstored.old.chains s.chain s.pin → IsNoneOf (written_snaps_of o) s) }
     ensures kept { IfOk result (λ _. (schema : SchemaValue) → KeepsUnstored schema unstored.old unstored.new) }
-    ensures err { OnErr result ((schema : SchemaValue) → IsSourceLetGo (snap_in source) schema unstored.old unstored.new) }
+    ensures err { OnErr result ((schema : SchemaValue) → IsSourceLetGo (source_snap source) schema unstored.old unstored.new) }
 {
     what_a_call_leaves_of_the_room();
     what_calls_leave_of_the_cache();
@@ -751,11 +751,11 @@ fn open_with(
 ) -> Result<PartitionReader, AllocError>
     requires sees { (schema : SchemaValue) × (writes : List Change) × (later : List Change) × AreChangesOf schema writes × AreChangesOf schema later × SeesAllOf writes unstored.old.chains snaps.sealed × SeesAllOf later unstored.old.chains snaps.active }
     requires two { AreOfTwo snaps }
-    requires there { IsCachedThere unstored.old.chains (snap_in source) }
+    requires there { IsCachedThere unstored.old.chains (source_snap source) }
     requires read { IsReadWhole source }
     ensures gives { (schema : SchemaValue) (writes later below said : List Change) → AreChangesOf schema writes → AreChangesOf schema later → AreChangesOf schema below → SeesAllOf writes unstored.old.chains snaps.sealed → SeesAllOf later unstored.old.chains snaps.active → TellsBelow unstored.new.chains source below said →
         IfOk result (IsOpenedOver ⟦<PartReader as LeavesOver<Chains<131_072>>>⟧.lines schema unstored.new.chains opening.slice below said writes later) }
-    ensures held { IfOk result (λ o. held_by o.reader ≡ record { cached = snap_in source; written = snaps }) }
+    ensures held { IfOk result (λ o. held_by o.reader ≡ record { cached = source_snap source; written = snaps }) }
     ensures key { IfOk result (λ o. o.key ≡ opening.key) }
     ensures tables { IfOk result (λ o. o.tables ≡ opening.tables) }
     ensures same { IfOk result (λ _. unstored.new ≡ unstored.old) }
@@ -795,8 +795,8 @@ fn open_with(
 
 // The snapshot of the row cache that was to tell what the tables say is taken back, if it is one.
 fn let_go(unstored: &mut Unstored<131_072>, source: Source)
-    requires { IsCachedThere unstored.old.chains (snap_in source) }
-    ensures { IsGivenBack (snap_in source) unstored.old.chains unstored.new.chains × (unstored.new ≡ in_chains unstored.new.chains unstored.old) }
+    requires { IsCachedThere unstored.old.chains (source_snap source) }
+    ensures { IsSnapGivenBack (source_snap source) unstored.old.chains unstored.new.chains × (unstored.new ≡ in_chains unstored.new.chains unstored.old) }
 {
     match source {
         Source::Cached(snap) => release_cached(&mut unstored.chains, snap),
@@ -818,7 +818,7 @@ fn held_of(opened: PartitionReader) -> HeldSnaps
 
 // The snapshots of a reader are taken back.
 fn release_held(unstored: &mut Unstored<131_072>, held: HeldSnaps)
-    requires { AreHeld unstored.old.chains held }
+    requires { AreHeldThere unstored.old.chains held }
     ensures { AreHeldReleased held unstored.old unstored.new }
 {
     what_a_call_leaves_of_the_room();
@@ -842,7 +842,7 @@ fn stream_read(alloc: Global, read: &Mutation) -> Result<Source, StreamErr>
 
 // Takes the snapshots of all readers back.
 fn close_all(unstored: Unstored<131_072>, readers: Vec<(u32, PartitionReader)>)
-    requires held { AllByRecursion (λ o. AreHeld unstored.chains (held_by o.1.reader)) readers.items }
+    requires held { AllByRecursion (λ o. AreHeldThere unstored.chains (held_by o.1.reader)) readers.items }
     requires two { AllPairs AreTwo (map holding readers.items) }
 {
     what_leaves_the_chains_of_both_leaves_their_writes();

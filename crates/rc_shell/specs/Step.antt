@@ -106,11 +106,8 @@ MayAsk stage meaning bound = bound ≡ 0
 -- a schema line that opens the machine begins anew, and an answer is counted by whether it asked for any.
 abbrev pub told_after : Stage → Result Command Refusal → Option Reply → ℕ → ℕ → Statistics → Statistics
 told_after (Waiting files) (Ok (SetSchema schema)) reply before after told = nothing_told after
-told_after (Serving m) (Ok command) (Some reply) before after told = record told {
-  hits = if is_answered command reply && nat_eq before after then told.hits + 1 else told.hits;
-  misses = if is_answered command reply && not (nat_eq before after) then told.misses + 1 else told.misses;
-  last = option_or (figures_in command reply) told.last;
-}
+told_after (Serving m) (Ok command) (Some reply) before after told =
+    record told { hits = if is_answered command reply && nat_eq before after then told.hits + 1 else told.hits; misses = if is_answered command reply && not (nat_eq before after) then told.misses + 1 else told.misses; last = option_or (figures_in command reply) told.last }
 told_after stage meaning reply before after told = told
 
 -- These figures may be told where the store was asked for so many ranges: the answers that were counted, each count up to the greatest that it has;

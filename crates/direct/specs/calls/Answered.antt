@@ -9,6 +9,6 @@ use Rattle.rc_machine.specs.State.{State}
 use Rattle.rc_machine.specs.Steps.{Steps, Refuses}
 
 -- By what it means: a command that is served takes one step of the machine; any other is a bad line; and what is refused changes nothing.
-abbrev pub IsAnswered : State → Result Command Refusal → Reply → State → Type 0
-IsAnswered m (Ok command) reply next = MatchBool (is_built command) (Steps m command reply next) (Refuses m BadLine reply next)
-IsAnswered m (Err refusal) reply next = Refuses m refusal reply next
+abbrev pub IsCommandAnswered : State → Result Command Refusal → Reply → State → Type 0
+IsCommandAnswered m (Ok command) reply next = MatchBool (is_built command) (Steps m command reply next) (Refuses m BadLine reply next)
+IsCommandAnswered m (Err refusal) reply next = Refuses m refusal reply next

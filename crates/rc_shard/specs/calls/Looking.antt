@@ -27,7 +27,7 @@ use Rattle.rc_stream.specs.Snapshot.{NoneLost}
 use Rattle.rc_shard.specs.declared.shard.Shard.{Shard}
 use Rattle.rc_shard.specs.declared.readers.Source.{Source}
 use Rattle.rc_shard.specs.declared.readers.Source.TheVariants.{Cached, Read}
-use Rattle.rc_shard.specs.Readers.{IsOther, cached_of}
+use Rattle.rc_shard.specs.Readers.{IsOtherSnap, cached_of}
 use Rattle.rc_shard.specs.Using.{LeavesBeside}
 use Rattle.rc_shard.specs.Knowing.{IsKnownStill}
 use Rattle.rc_shard.specs.calls.Caching.{LeavesCache}
@@ -45,7 +45,7 @@ pub record IsTabled (m : State) (key : List ℕ) (list : Stream) : Type 0 where
 pub record IsEntrySnapshot (k : Shard) (key : List ℕ) (s : Snap) : Type 0 where
   pub entry : entry_number k.cache.entries key ≡ Some s.chain
   pub there : HasCacheSnapshot k.unstored.chains s.chain s.pin
-  pub apart : AllByRecursion (λ o. IsOther (cached_of o.1) s) k.readers.items
+  pub apart : AllByRecursion (λ o. IsOtherSnap (cached_of o.1) s) k.readers.items
 
 -- what tells what the tables say of a partition: a snapshot of its entry; or what was read of them
 abbrev pub IsSourceIn : Shard → State → List ℕ → Source → Type 0
@@ -53,13 +53,13 @@ IsSourceIn k m key (Cached s) = IsEntrySnapshot k key s
 IsSourceIn k m key (Read list) = IsTabled m key list
 
 -- the snapshot that it is, if it is one
-abbrev pub snap_in : Source → Option Snap
-snap_in (Cached s) = Some s
-snap_in (Read list) = None
+abbrev pub source_snap : Source → Option Snap
+source_snap (Cached s) = Some s
+source_snap (Read list) = None
 
 -- the snapshot that was taken, if one was
 abbrev pub source_taken : {E : Type 0} → Result Source E → Option Snap
-source_taken (Ok source) = snap_in source
+source_taken (Ok source) = source_snap source
 source_taken (Err e) = None
 
 -- so it is where one was looked for

@@ -35,9 +35,9 @@ use Rattle.rc_shard.specs.declared.readers.Source.{Source}
 use Rattle.rc_shard.specs.declared.readers.Source.TheVariants.{Cached, Read}
 use Rattle.rc_shard.specs.Opening.{PinsPartition}
 use Rattle.rc_shard.specs.Readers.{IsReadOver, cached_of}
-use Rattle.rc_shard.specs.Releasing.{IsGivenBack}
+use Rattle.rc_shard.specs.Releasing.{IsSnapGivenBack}
 use Rattle.rc_shard.specs.calls.Caching.{KeepsCache}
-use Rattle.rc_shard.specs.calls.Looking.{snap_in}
+use Rattle.rc_shard.specs.calls.Looking.{source_snap}
 use Rattle.rc_shard.specs.calls.Storing.{KeepsUnstored}
 
 -- what was read of a partition is the stream of a mutation from its beginning
@@ -74,7 +74,7 @@ pub record IsOpenedOver (lines : PartReader → Memory → List Mutation → Lis
 
 -- behind the open readers stands one more, with this id, which pins a partition, over what tells what the tables say
 abbrev pub IsReaderPinned : ℕ → List ℕ → Source → List (ℕ × PartitionReader) → Unstored 131072 → List (ℕ × PartitionReader) → Unstored 131072 → Type 0
-IsReaderPinned id key source readers old readers' new = (o : PartitionReader) × (readers' ≡ readers ++ (id, o) ∷ []) × (cached_of o ≡ snap_in source) × PinsPartition key old new o
+IsReaderPinned id key source readers old readers' new = (o : PartitionReader) × (readers' ≡ readers ++ (id, o) ∷ []) × (cached_of o ≡ source_snap source) × PinsPartition key old new o
 
 -- both snapshots of what is written were taken back; all others see what they saw
 pub record AreBothReleased (snaps : Snaps) (old new : Unstored 131072) : Type 0 where
@@ -86,12 +86,12 @@ pub record AreBothReleased (snaps : Snaps) (old new : Unstored 131072) : Type 0 
 
 -- what was written stays, and what the row cache has; then the snapshot of it that was to be read was taken back, if there was one
 abbrev pub IsSourceLetGo : Option Snap → SchemaValue → Unstored 131072 → Unstored 131072 → Type 0
-IsSourceLetGo snap schema old new = (mid : Unstored 131072) × KeepsUnstored schema old mid × IsGivenBack snap mid.chains new.chains × (new ≡ in_chains new.chains mid)
+IsSourceLetGo snap schema old new = (mid : Unstored 131072) × KeepsUnstored schema old mid × IsSnapGivenBack snap mid.chains new.chains × (new ≡ in_chains new.chains mid)
 
 -- all snapshots of a reader were taken back: that of the row cache, if there was one, and then those of what is written
 pub record AreHeldReleased (held : HeldSnaps) (old new : Unstored 131072) : Type 0 where
   pub mid : Memory
-  pub past : IsGivenBack held.cached old.chains mid
+  pub past : IsSnapGivenBack held.cached old.chains mid
   pub both : AreBothReleased held.written (in_chains mid old) new
   pub cache : KeepsCache mid new.chains
   pub counts : new.chains.counts ≡ old.chains.counts

@@ -14,8 +14,8 @@ use Rattle.rc_lookup.specs.Memtables.{in_chains}
 use Rattle.rc_paging.specs.Forms.{held_by}
 use Rattle.rc_shard.specs.declared.readers.PartitionReader.{PartitionReader}
 use Rattle.rc_shard.specs.declared.shard.Shard.{Shard}
-use Rattle.rc_shard.specs.Readers.{cached_of, snaps_of}
-use Rattle.rc_shard.specs.Releasing.{IsGivenBack}
+use Rattle.rc_shard.specs.Readers.{cached_of, written_snaps_of}
+use Rattle.rc_shard.specs.Releasing.{IsSnapGivenBack}
 
 -- the state with another reader in place of the one of an id
 abbrev pub with_reader : ℕ → Reader → State → State
@@ -66,8 +66,8 @@ pub record IsGonePastAt (at : ℕ) (o : ℕ × PartitionReader) (old new : Shard
   pub id : reader.0 ≡ o.0
   pub key : reader.1.key ≡ o.1.key
   pub tables : reader.1.tables ≡ o.1.tables
-  pub snaps : held_by reader.1.reader ≡ record { cached = None; written = snaps_of o.1 }
-  pub past : IsGivenBack (cached_of o.1) old.unstored.chains new.unstored.chains
+  pub snaps : held_by reader.1.reader ≡ record { cached = None; written = written_snaps_of o.1 }
+  pub past : IsSnapGivenBack (cached_of o.1) old.unstored.chains new.unstored.chains
   pub unstored : new.unstored ≡ in_chains new.unstored.chains old.unstored
   pub folder : new.folder ≡ old.folder
   pub cache : new.cache ≡ old.cache

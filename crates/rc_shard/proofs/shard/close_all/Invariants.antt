@@ -2,12 +2,12 @@
 use Rattle.std.specs.Prelude.{AllPairs, length, map}
 use Rattle.std.specs.List.{AllByRecursion}
 use Rattle.rc_paging.specs.Forms.{held_by}
-use Rattle.rc_shard.specs.Readers.{AreHeld, AreTwo, holding}
+use Rattle.rc_shard.specs.Readers.{AreHeldThere, AreTwo, holding}
 use Rattle.rc_shard.proofs.shard.close_all.Given as goal
 
 abbrev pub invariant-loop-id : goal.invariant-loop-id
 invariant-loop-id l = record {
-  held : AllByRecursion (λ o. AreHeld l.unstored.chains (held_by o.1.reader)) l.readers.items;
+  held : AllByRecursion (λ o. AreHeldThere l.unstored.chains (held_by o.1.reader)) l.readers.items;
   two : AllPairs AreTwo (map holding l.readers.items);
 }
 

@@ -7,7 +7,7 @@ use Rattle.rc_snapshots.specs.Seeing.{AreThere}
 use Rattle.rc_snapshots.specs.laws.Seeing.{all-see}
 use Rattle.rc_lookup.specs.Readers.{IsNoneOf}
 use Rattle.rc_shard.specs.calls.Caching.{KeepsCache}
-use Rattle.rc_shard.specs.calls.Looking.{snap_in}
+use Rattle.rc_shard.specs.calls.Looking.{source_snap}
 use Rattle.rc_shard.specs.calls.Storing.{KeepsUnstored}
 use Rattle.rc_shard.proofs.Opened.{held-ok, kept-ok, let-go-read}
 use Rattle.rc_shard.proofs.Served.{cached-still}
@@ -47,11 +47,11 @@ returns-in-Ok-clause-held c =
     let snaps = c.in-Ok.snaps in
     let took = c.in-Ok.ensures.exact in
     let cache : KeepsCache old new = c.what_calls_leave_of_the_cache.ensures.taken old took.0 new snaps.sealed snaps.active (kind-of key r.1 old new snaps.sealed (c.in-Ok.ensures.sealed r.0 r.1 r.2 r.3)) (kind-of key r.2 old new snaps.active (c.in-Ok.ensures.active r.0 r.1 r.2 r.3)) took.1 took.2 in
-    held-ok c.open_with.result c.snapshot.new.self c.open_with.new.unstored (record { cached = snap_in c.args.source; written = snaps }) c.open_with.ensures.held c.open_with.ensures.same
+    held-ok c.open_with.result c.snapshot.new.self c.open_with.new.unstored (record { cached = source_snap c.args.source; written = snaps }) c.open_with.ensures.held c.open_with.ensures.same
     (record {
       written = record { sealed = there-of key r.1 old new snaps.sealed (c.in-Ok.ensures.sealed r.0 r.1 r.2 r.3); active = there-of key r.2 old new snaps.active (c.in-Ok.ensures.active r.0 r.1 r.2 r.3) };
       two = c.in-Ok.ensures.apart;
-      cached = cached-still old new (snap_in c.args.source) cache.left.snapshots.each c.requires.there;
+      cached = cached-still old new (source_snap c.args.source) cache.left.snapshots.each c.requires.there;
     })
 
 pub returns-in-Ok-clause-kept : goal.returns-in-Ok-clause-kept

@@ -3,7 +3,7 @@ use Rattle.std.proofs.Common.{◌≡◌, ◌==◌, ℕ, List, Some, None, positi
 use Rattle.rc_paging.specs.declared.layers.HeldSnaps.{HeldSnaps}
 use Rattle.rc_shard.specs.declared.readers.PartitionReader.{PartitionReader}
 use Rattle.rc_shard.specs.declared.shard.Shard.{Shard}
-use Rattle.rc_shard.specs.Readers.{AreHeld}
+use Rattle.rc_shard.specs.Readers.{AreHeldThere}
 use Rattle.rc_shard.specs.calls.Opened.{AreHeldReleased}
 use Rattle.rc_shard.proofs.Closing.{back-counts, lost-past, past-rest, takes-close}
 use Rattle.rc_shard.proofs.Counted.{counts-itself}
@@ -17,7 +17,7 @@ release_held-requires c =
     let s = c.requires in
     let at = place-of c.args.id c.args.self.now.readers.items c.in-Some.at (subst (λ (os : List (ℕ × PartitionReader)). position (λ reader. reader.0 == c.args.id) os ≡ Some c.in-Some.at) c.as_slice.ensures.value (sym c.in-Some.ensures)) in
     let f = found-at _ s.0 c.args.self.now s.1 c.args.id c.in-Some.at c.remove-id.result s.2 at (sym c.remove-id.ensures.value) in
-    subst (AreHeld c.args.self.now.unstored.chains) (sym c.held_of.ensures) f.served.held
+    subst (AreHeldThere c.args.self.now.unstored.chains) (sym c.held_of.ensures) f.served.held
 
 pub returns-in-None-clause-step : goal.returns-in-None-clause-step
 returns-in-None-clause-step c = λ files.

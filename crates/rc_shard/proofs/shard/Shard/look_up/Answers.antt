@@ -2,7 +2,7 @@
 use Rattle.std.proofs.Common.{refl, arith}
 use Rattle.rc_lookup.specs.Memtables.{in_chains}
 use Rattle.rc_shard.specs.declared.shard.Shard.{Shard}
-use Rattle.rc_shard.specs.Readers.{count_of}
+use Rattle.rc_shard.specs.Readers.{number_of_snaps}
 use Rattle.rc_shard.specs.calls.Looking.{snap_taken}
 use Rattle.rc_shard.proofs.Known.{known-still}
 use Rattle.rc_shard.proofs.Looking.{beside-of, cached-looked, entry-snapshot, if-some, over-of, rest-of, used-for}
@@ -24,9 +24,9 @@ pub returns-clause-keeps : goal.returns-clause-keeps
 returns-clause-keeps c = λ files m s.
     let k = c.args.self.now in
     let rest = rest-of (snap_taken c.take_known.result) k.unstored.chains c.take_known.new.chains (beside-of c.take_known.result k.unstored.chains c.take_known.new.chains c.take_known.ensures.rest c.take_known.ensures.rest_err) in
-    let cached = cached-looked (count_of (snap_taken c.take_known.result)) k.folder.schema k.cache.entries c.take_known.new.cache.entries k.unstored.chains c.take_known.new.chains m rest (λ schema below says. c.take_known.ensures.says schema below says) c.take_known.ensures.entries c.take_known.ensures.forgotten s.cached in
+    let cached = cached-looked (number_of_snaps (snap_taken c.take_known.result)) k.folder.schema k.cache.entries c.take_known.new.cache.entries k.unstored.chains c.take_known.new.chains m rest (λ schema below says. c.take_known.ensures.says schema below says) c.take_known.ensures.entries c.take_known.ensures.forgotten s.cached in
     used-for _ c.a_reader_stays.ensures (λ schema u n writes later. c.what_leaves_the_chains_of_both_leaves_their_writes.ensures.beside 131072 schema u n writes later)
-    files k.folder k.unstored c.take_known.new.chains k.cache.entries c.take_known.new.cache.entries k.readers.items k.segments (count_of (snap_taken c.take_known.result)) m rest cached s (λ id pin h. refl)
+    files k.folder k.unstored c.take_known.new.chains k.cache.entries c.take_known.new.cache.entries k.readers.items k.segments (number_of_snaps (snap_taken c.take_known.result)) m rest cached s (λ id pin h. refl)
 
 pub returns-clause-beside : goal.returns-clause-beside
 returns-clause-beside c = record { rest = beside-of c.take_known.result c.args.self.now.unstored.chains c.take_known.new.chains c.take_known.ensures.rest c.take_known.ensures.rest_err; keys = record { sealed = refl; active = refl }; folder = refl; readers = refl; answered = refl; segments = refl; asked = refl }

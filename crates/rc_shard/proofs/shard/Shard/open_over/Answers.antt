@@ -4,7 +4,7 @@ use Rattle.rc_lookup.specs.Found.{entry_number}
 use Rattle.rc_lookup.specs.NoMore.{counts-then}
 use Rattle.rc_shard.specs.declared.readers.PartitionReader.{PartitionReader}
 use Rattle.rc_shard.specs.declared.shard.Shard.{Shard}
-use Rattle.rc_shard.specs.Readers.{snaps_of}
+use Rattle.rc_shard.specs.Readers.{written_snaps_of}
 use Rattle.rc_shard.proofs.Closing.{past-rest}
 use Rattle.rc_shard.proofs.Known.{known-where}
 use Rattle.rc_shard.proofs.Looking.{known-pinned, same-recency}
@@ -67,18 +67,18 @@ returns-clause-opened c = λ files m s of.
 pub returns-clause-stays : goal.returns-clause-stays
 returns-clause-stays c = λ q.
     let took = c.in_ok-opened.ensures.pins.exact in
-    let snaps = snaps_of c.in_ok-opened.opened in
+    let snaps = written_snaps_of c.in_ok-opened.opened in
     let new : Shard = record c.args.self.now { unstored = c.open_in.new.unstored; readers = c.push.new.self } in
     known-where c.args.self.now new q (λ P h. known-pinned (entry_number c.args.self.now.cache.entries q) c.args.self.now.unstored.chains took.0 c.open_in.new.unstored.chains snaps.sealed snaps.active took.1 took.2 P h)
 
 pub returns-clause-recency : goal.returns-clause-recency
 returns-clause-recency c =
     let took = c.in_ok-opened.ensures.pins.exact in
-    let snaps = snaps_of c.in_ok-opened.opened in
+    let snaps = written_snaps_of c.in_ok-opened.opened in
     (refl, same-recency took.0 c.open_in.new.unstored.chains snaps.active took.2 ∙ same-recency c.args.self.now.unstored.chains took.0 snaps.sealed took.1)
 
 pub returns-clause-loses : goal.returns-clause-loses
 returns-clause-loses c =
     let took = c.in_ok-opened.ensures.pins.exact in
-    let snaps = snaps_of c.in_ok-opened.opened in
+    let snaps = written_snaps_of c.in_ok-opened.opened in
     pinned-loses c.args.self.now.unstored.chains took.0 c.open_in.new.unstored.chains snaps.sealed snaps.active took.1 took.2

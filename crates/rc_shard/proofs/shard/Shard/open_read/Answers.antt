@@ -9,7 +9,7 @@ use Rattle.rc_lookup.specs.Crowds.{loses-before}
 use Rattle.rc_shard.proofs.Losing.{crowded-since}
 use Rattle.rc_shard.proofs.Counted.{counts-itself, counts-reserved}
 use Rattle.rc_shard.proofs.Looking.{counts-behind, counts-used, lost-within, no-count, on-ok, on-ok-weaker, rest-of}
-use Rattle.rc_shard.specs.Readers.{count_of}
+use Rattle.rc_shard.specs.Readers.{number_of_snaps}
 use Rattle.rc_shard.specs.Using.{LeavesBeside}
 use Rattle.rc_shard.specs.calls.Looking.{AreKnownStill, IsSourceIn, UnlessMemory, source_taken}
 use Rattle.rc_shard.specs.calls.Opened.{IsReaderPinned}
@@ -35,7 +35,7 @@ returns-then-len-ge-MOST_READERS-clause-step g c =
 pub open_over-requires-clause-stands : goal.open_over-requires-clause-stands
 open_over-requires-clause-stands g c =
     let s = stands-reserved _ (g.W.Store.files c.args.store.now) c.args.self.now c.reserve.new.self c.requires.0 c.reserve.ensures.items c.requires.1 in
-    let taken = ap (λ r. count_of (source_taken r)) c.in-Ok.is in
+    let taken = ap (λ r. number_of_snaps (source_taken r)) c.in-Ok.is in
     (g.W.Store.files c.args.store.now, c.requires.0, taken-as taken (c.source_of.ensures.keeps c.requires.0 s), subst (λ (key : List ℕ). IsSourceIn c.source_of.new.self c.requires.0 key c.in-Ok.source) (sym (ap (λ (o : Opening). o.key) c.in_ok-opening.ensures)) (c.in-Ok.ensures.says c.requires.0 s))
 
 pub open_over-requires-clause-unused : goal.open_over-requires-clause-unused
@@ -52,7 +52,7 @@ returns-in-Ok-clause-step g c =
     opened-of _ files files' c.args.self.now c.open_over.new.self c.args.id c.args.key.now c.args.slice.now c.open_over.result c.source_of.ensures.store.0 (nowhere-of c.args.id c.args.self.now.readers.items shut) few c.open_over.ensures.fine
     (λ m s. (let r = stands-reserved _ files c.args.self.now c.reserve.new.self m c.reserve.ensures.items s in
     opened-by _ files m c.args.id c.source_of.new.self c.open_over.new.self c.open_over.result c.in-Ok.source c.in_ok-opening.opening (record { key = c.args.key.now; slice = c.args.slice.now; tables = c.args.self.now.folder.infos }) c.in_ok-opening.ensures
-    (c.open_over.ensures.opened files m (taken-as (ap (λ t. count_of (source_taken t)) c.in-Ok.is) (c.source_of.ensures.keeps m r))) (c.in-Ok.ensures.says m r)))
+    (c.open_over.ensures.opened files m (taken-as (ap (λ t. number_of_snaps (source_taken t)) c.in-Ok.is) (c.source_of.ensures.keeps m r))) (c.in-Ok.ensures.says m r)))
 
 pub returns-in-Err-clause-step : goal.returns-in-Err-clause-step
 returns-in-Err-clause-step g c =
@@ -60,19 +60,19 @@ returns-in-Err-clause-step g c =
     let shut = open-none c.args.id c.args.self.now.readers.items c.place_of.result (subst (λ (os : List (ℕ × PartitionReader)). c.place_of.result ≡ position (λ reader. reader.0 == c.args.id) os) c.as_slice.ensures.value c.place_of.ensures) c.if-is_some.ensures in
     let few : length c.args.self.now.readers.items < most_readers = omega (arith, c.if-len-ge-MOST_READERS.false, c.len.ensures, c.args.self.now.readers.ok) in
     unread-of _ files (g.W.Store.files c.source_of.new.store) c.args.self.now c.source_of.new.self c.args.id c.args.key.now c.args.slice.now c.in-Err.error (g.W.Store.faults c.args.store.now) (g.W.Store.faults c.source_of.new.store) c.not_read.result c.source_of.ensures.store.0 (nowhere-of c.args.id c.args.self.now.readers.items shut) few
-    (λ m s. taken-as (ap (λ t. count_of (source_taken t)) c.in-Err.is) (c.source_of.ensures.keeps m (stands-reserved _ files c.args.self.now c.reserve.new.self m c.reserve.ensures.items s))) c.in-Err.ensures.damaged c.in-Err.ensures.cause c.not_read.ensures
+    (λ m s. taken-as (ap (λ t. number_of_snaps (source_taken t)) c.in-Err.is) (c.source_of.ensures.keeps m (stands-reserved _ files c.args.self.now c.reserve.new.self m c.reserve.ensures.items s))) c.in-Err.ensures.damaged c.in-Err.ensures.cause c.not_read.ensures
 
 pub returns-in-Ok-clause-err : goal.returns-in-Ok-clause-err
 returns-in-Ok-clause-err g c =
     let files = g.W.Store.files c.args.store.now in
     let keys = ap (λ (o : Opening). o.key) c.in_ok-opening.ensures in
     on-each c.open_over.result _ _ (λ m s. (let r = stands-reserved _ files c.args.self.now c.reserve.new.self m c.reserve.ensures.items s in
-    c.open_over.ensures.err files m (taken-as (ap (λ t. count_of (source_taken t)) c.in-Ok.is) (c.source_of.ensures.keeps m r)) (subst (λ (key : List ℕ). IsSourceIn c.source_of.new.self m key c.in-Ok.source) (sym keys) (c.in-Ok.ensures.says m r))))
+    c.open_over.ensures.err files m (taken-as (ap (λ t. number_of_snaps (source_taken t)) c.in-Ok.is) (c.source_of.ensures.keeps m r)) (subst (λ (key : List ℕ). IsSourceIn c.source_of.new.self m key c.in-Ok.source) (sym keys) (c.in-Ok.ensures.says m r))))
 
 pub returns-in-Err-clause-err : goal.returns-in-Err-clause-err
 returns-in-Err-clause-err g c =
     let files = g.W.Store.files c.args.store.now in
-    on-err c.not_read.result _ (λ m s. taken-as (ap (λ t. count_of (source_taken t)) c.in-Err.is) (c.source_of.ensures.keeps m (stands-reserved _ files c.args.self.now c.reserve.new.self m c.reserve.ensures.items s)))
+    on-err c.not_read.result _ (λ m s. taken-as (ap (λ t. number_of_snaps (source_taken t)) c.in-Err.is) (c.source_of.ensures.keeps m (stands-reserved _ files c.args.self.now c.reserve.new.self m c.reserve.ensures.items s)))
 
 pub returns-in-Err-clause-faults : goal.returns-in-Err-clause-faults
 returns-in-Err-clause-faults g c = unread-faults Source (g.W.Store.files c.args.store.now) c.in-Err.error (g.W.Store.faults c.args.store.now) (g.W.Store.faults c.source_of.new.store) c.not_read.result c.in-Err.ensures.cause c.not_read.ensures

@@ -7,7 +7,7 @@ use Rattle.rc_lookup.specs.Crowds.{loses-after}
 use Rattle.rc_lookup.specs.Losing.{loses-wider}
 use Rattle.rc_shard.specs.Knowing.{IsCachedWhole, IsPartitionRecent}
 use Rattle.rc_chain.specs.declared.chains.Snap.{Snap}
-use Rattle.rc_shard.specs.Readers.{count_of}
+use Rattle.rc_shard.specs.Readers.{number_of_snaps}
 use Rattle.rc_shard.proofs.Standing.{taken-as}
 use Rattle.rc_shard.specs.calls.Looking.{AreKnownStill, IsCacheUsed, IsEntrySnapshot, snap_taken, source_taken}
 use Rattle.rc_shard.proofs.Known.{known-then, unless-weaker}
@@ -15,13 +15,13 @@ use Rattle.rc_shard.proofs.Looking.{lost-within, no-count, none-some, on-ok, on-
 use Rattle.rc_shard.proofs.shard.Shard.source_of.Goals as goal
 
 pub read_tables-requires : goal.read_tables-requires
-read_tables-requires g c = (c.requires.0, taken-as (ap (λ r. count_of (snap_taken r)) (c.in-Ok-None.is ∙ ap Ok c.in-Ok-None.field-0-is)) (c.look_up.ensures.keeps (g.W.Store.files c.args.store.now) c.requires.0 c.requires.1))
+read_tables-requires g c = (c.requires.0, taken-as (ap (λ r. number_of_snaps (snap_taken r)) (c.in-Ok-None.is ∙ ap Ok c.in-Ok-None.field-0-is)) (c.look_up.ensures.keeps (g.W.Store.files c.args.store.now) c.requires.0 c.requires.1))
 
 pub returns-in-Ok-Some-clause-says : goal.returns-in-Ok-Some-clause-says
 returns-in-Ok-Some-clause-says g c = λ m s. subst (λ r. IfOk r (λ o. IfSome o (IsEntrySnapshot c.look_up.new.self c.args.key.now))) (c.in-Ok-Some.is ∙ ap Ok c.in-Ok-Some.field-0-is) (c.look_up.ensures.says (g.W.Store.files c.args.store.now) m s)
 
 pub returns-in-Ok-None-clause-says : goal.returns-in-Ok-None-clause-says
-returns-in-Ok-None-clause-says g c = λ m s. c.read_tables.ensures.says m (taken-as (ap (λ r. count_of (snap_taken r)) (c.in-Ok-None.is ∙ ap Ok c.in-Ok-None.field-0-is)) (c.look_up.ensures.keeps (g.W.Store.files c.args.store.now) m s))
+returns-in-Ok-None-clause-says g c = λ m s. c.read_tables.ensures.says m (taken-as (ap (λ r. number_of_snaps (snap_taken r)) (c.in-Ok-None.is ∙ ap Ok c.in-Ok-None.field-0-is)) (c.look_up.ensures.keeps (g.W.Store.files c.args.store.now) m s))
 
 pub returns-in-Ok-None-clause-known : goal.returns-in-Ok-None-clause-known
 returns-in-Ok-None-clause-known g c = λ whole. absurd (none-some None refl (subst (λ r. IfOk r IsSome) (c.in-Ok-None.is ∙ ap Ok c.in-Ok-None.field-0-is) (c.look_up.ensures.known whole)))
@@ -37,13 +37,13 @@ returns-in-Ok-None-clause-whole g c =
     on-ok-weaker c.read_tables.result _ _ (λ h none. h (lost-within old mid new new (rest-of _ old mid c.look_up.ensures.beside.rest).counts (rest-of _ mid new c.read_tables.ensures.beside.rest).counts (no-count new) none)) c.read_tables.ensures.whole
 
 pub returns-in-Ok-Some-clause-keeps : goal.returns-in-Ok-Some-clause-keeps
-returns-in-Ok-Some-clause-keeps g c = λ m s. taken-as (ap (λ r. count_of (snap_taken r)) (c.in-Ok-Some.is ∙ ap Ok c.in-Ok-Some.field-0-is)) (c.look_up.ensures.keeps (g.W.Store.files c.args.store.now) m s)
+returns-in-Ok-Some-clause-keeps g c = λ m s. taken-as (ap (λ r. number_of_snaps (snap_taken r)) (c.in-Ok-Some.is ∙ ap Ok c.in-Ok-Some.field-0-is)) (c.look_up.ensures.keeps (g.W.Store.files c.args.store.now) m s)
 
 pub returns-in-Ok-None-clause-keeps : goal.returns-in-Ok-None-clause-keeps
-returns-in-Ok-None-clause-keeps g c = λ m s. c.read_tables.ensures.keeps m (taken-as (ap (λ r. count_of (snap_taken r)) (c.in-Ok-None.is ∙ ap Ok c.in-Ok-None.field-0-is)) (c.look_up.ensures.keeps (g.W.Store.files c.args.store.now) m s))
+returns-in-Ok-None-clause-keeps g c = λ m s. c.read_tables.ensures.keeps m (taken-as (ap (λ r. number_of_snaps (snap_taken r)) (c.in-Ok-None.is ∙ ap Ok c.in-Ok-None.field-0-is)) (c.look_up.ensures.keeps (g.W.Store.files c.args.store.now) m s))
 
 pub returns-in-Err-clause-keeps : goal.returns-in-Err-clause-keeps
-returns-in-Err-clause-keeps g c = λ m s. taken-as (ap (λ r. count_of (snap_taken r)) c.in-Err.is) (c.look_up.ensures.keeps (g.W.Store.files c.args.store.now) m s)
+returns-in-Err-clause-keeps g c = λ m s. taken-as (ap (λ r. number_of_snaps (snap_taken r)) c.in-Err.is) (c.look_up.ensures.keeps (g.W.Store.files c.args.store.now) m s)
 
 pub returns-in-Ok-None-clause-beside : goal.returns-in-Ok-None-clause-beside
 returns-in-Ok-None-clause-beside g c = used-then (source_taken c.read_tables.result) c.args.self.now c.look_up.new.self c.read_tables.new.self
