@@ -12,7 +12,7 @@ use Rattle.rc_shard.specs.calls.Storing.{KeepsUnstored}
 use Rattle.rc_shard.proofs.Opened.{held-ok, kept-ok, let-go-read}
 use Rattle.rc_shard.proofs.Served.{cached-still}
 use Rattle.rc_shard.proofs.Standing.{kept-back, kind-of, none-of-new, there-of}
-use Rattle.rc_shard.proofs.shard.open_in.Goals as goal
+use Rattle.rc_shard.proofs.readers.open_in.Goals as goal
 
 pub open_with-requires-clause-sees : goal.open_with-requires-clause-sees
 open_with-requires-clause-sees c =

@@ -3,7 +3,7 @@ use Rattle.std.specs.Prelude.{AllPairs, length, map}
 use Rattle.std.specs.List.{AllByRecursion}
 use Rattle.rc_paging.specs.Forms.{held_by}
 use Rattle.rc_shard.specs.Readers.{AreHeldThere, AreTwo, holding}
-use Rattle.rc_shard.proofs.shard.close_all.Given as goal
+use Rattle.rc_shard.proofs.readers.close_all.Given as goal
 
 abbrev pub invariant-loop-id : goal.invariant-loop-id
 invariant-loop-id l = record {

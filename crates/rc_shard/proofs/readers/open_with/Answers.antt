@@ -7,7 +7,7 @@ use Rattle.rc_mutation.specs.laws.Sources.{IsJoinOf-one}
 use Rattle.rc_shard.specs.declared.readers.Source.{Source}
 use Rattle.rc_shard.specs.calls.Opened.{AreBothReleased, IsReadSource, IsReadWhole, TellsBelow}
 use Rattle.rc_shard.proofs.Opened.{opened-cached, opened-past, released-of}
-use Rattle.rc_shard.proofs.shard.open_with.Goals as goal
+use Rattle.rc_shard.proofs.readers.open_with.Goals as goal
 
 pub open-requires-in-Read : goal.open-requires-in-Read
 open-requires-in-Read c =

@@ -5,7 +5,7 @@ use Rattle.rc_snapshots.specs.laws.Seeing.{there-then}
 use Rattle.rc_shard.proofs.Caching.{counts-back-if, there-behind}
 use Rattle.rc_shard.proofs.Closing.{past-rest}
 use Rattle.rc_shard.proofs.GoneOn.{seen-if}
-use Rattle.rc_shard.proofs.shard.release_held.Goals as goal
+use Rattle.rc_shard.proofs.readers.release_held.Goals as goal
 
 pub release_both-requires : goal.release_both-requires
 release_both-requires c =

@@ -8,7 +8,7 @@ use Rattle.rc_shard.specs.Readers.{AreHeldThere, AreTwo, holding}
 use Rattle.rc_shard.specs.calls.Opened.{AreHeldReleased}
 use Rattle.rc_shard.proofs.Closing.{back-pins, back-seen, closed-held, front-two, last-held}
 use Rattle.rc_shard.proofs.Looking.{Beside}
-use Rattle.rc_shard.proofs.shard.close_all.Goals as goal
+use Rattle.rc_shard.proofs.readers.close_all.Goals as goal
 
 pub release_held-requires : goal.release_held-requires
 release_held-requires c =
