@@ -149,8 +149,7 @@ impl Machine for Shard {
     }
 
     /// Takes the step of a command that fits the schema and is one of those that are built, and gives its reply, which may be a refusal.
-    /// The only error is want of memory, which leaves the machine's state as it was, but that a flush may have sealed the writes, and a read
-    /// may have told its reader anew what the tables of its opening say.
+    /// The only error is want of memory, which leaves the machine's state as it was, but that a flush may have sealed the writes.
     fn serve<W: Store>(
         &mut self,
         alloc: Global,
