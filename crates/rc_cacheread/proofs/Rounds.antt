@@ -27,6 +27,7 @@ module _ {K F P H W : Type 0} (kn : OfKnown K H) (be : OfBelow F H W) (fi : OfFi
   did-after r n m h g f w v u y ok a b = record {
     calls = chain-after (ReaderCall kn be fi (OfNext y)) ok (reader_state r h w) (reader_state n g v) (reader_state m f u) a.calls b.calls;
     on = reach-through (stand r.spot) (stand n.spot) (stand m.spot) a.on b.on;
+    gone = tt;
     quiet = λ k.
         let x = a.quiet k in
         let z = b.quiet x.1 in
@@ -39,6 +40,7 @@ module _ {K F P H W : Type 0} (kn : OfKnown K H) (be : OfBelow F H W) (fi : OfFi
   did-stopped r n h g w v y a = record {
     calls = chain-stop (ReaderCall kn be fi (OfNext y)) (reader_state r h w) (reader_state n g v) a.calls;
     on = a.on;
+    gone = tt;
     quiet = λ k. (let x = a.quiet k in ((chain-stop (KnownStep kn.did) (r.known, h) (n.known, g) x.0.0, x.0.1, x.0.2, x.0.3), x.1));
     filled = a.filled;
     stays = a.stays;
@@ -48,6 +50,7 @@ module _ {K F P H W : Type 0} (kn : OfKnown K H) (be : OfBelow F H W) (fi : OfFi
   did-nothing r h w y = record {
     calls = chain-none (ReaderCall kn be fi (OfNext y)) true (reader_state r h w);
     on = reach-itself (stand r.spot);
+    gone = tt;
     quiet = λ k. ((chain-none (KnownStep kn.did) true (r.known, h), refl, refl, refl), k);
     filled = filled-still kn fi r.known r.filler h (IsKnownOver (kn.knows r.known h) (stand r.spot) (stand r.spot)) (over-nothing (kn.knows r.known h) (stand r.spot) (stand r.spot) refl);
     stays = λ writes d. d;

@@ -77,11 +77,11 @@ module _ {K F P H W : Type 0} (kn : OfKnown K H) (be : OfBelow F H W) (fi : OfFi
     idle : HasNothingDue t
     idle = record { again = g.again; told = (λ i. same_tomb (g.told i) (g.tomb i)); row = g.row }
 
-    at : stand t ≡ x
-    at = idle-stand t idle ∙ g.place
+    pub at-begun : stand t ≡ x
+    at-begun = idle-stand t idle ∙ g.place
 
     pub on-begun : Reaches (stand r.spot) (stand t)
-    on-begun = subst (Reaches (stand r.spot)) (sym at) g.on
+    on-begun = subst (Reaches (stand r.spot)) (sym at-begun) g.on
 
     carries : Carries (be.seen r.below h w) r.stage (stand r.spot) r.spot.tomb (be.seen r.below h w) Away (stand t) t.tomb
     carries = carries-away (be.seen r.below h w) (be.seen r.below h w) r.stage (stand r.spot) (stand t) r.spot.tomb t.tomb (λ y k. k)
@@ -119,7 +119,7 @@ module _ {K F P H W : Type 0} (kn : OfKnown K H) (be : OfBelow F H W) (fi : OfFi
             rest = sought_from x r.spot.tomb o.rest;
             tomb = sym (idle-told t idle ∙ g.tomb);
             left = (λ i. opening x (tomb i) ++ left i) ∙ ap (λ l. l ++ sought_from x r.spot.tomb o.rest) (sym (idle-front t idle));
-            reads = subst (λ (z : Pos × Option Tomb). Reads (SayThere d.writes) z.0 r.to z.1 (sought_from x r.spot.tomb o.rest)) (λ i. (sym at i, sym g.tomb i)) reads;
+            reads = subst (λ (z : Pos × Option Tomb). Reads (SayThere d.writes) z.0 r.to z.1 (sought_from x r.spot.tomb o.rest)) (λ i. (sym at-begun i, sym g.tomb i)) reads;
             pt = o.pt;
             static_row = o.static_row;
             below = cover o.rest o.below;
@@ -131,6 +131,6 @@ module _ {K F P H W : Type 0} (kn : OfKnown K H) (be : OfBelow F H W) (fi : OfFi
             stream = n.0;
             stands = n.1;
             fits = n.2;
-            says = λ z k b. n.3 z k ∙ y.says z (reach-through (stand r.spot) (stand t) z on-begun k) b ∙ sym (sought-there x z r.spot.tomb rest (subst (λ v. Reaches v z) at k)) ∙ ap (λ u. said_at z u (sought_from x r.spot.tomb rest)) (sym g.tomb);
+            says = λ z k b. n.3 z k ∙ y.says z (reach-through (stand r.spot) (stand t) z on-begun k) b ∙ sym (sought-there x z r.spot.tomb rest (subst (λ v. Reaches v z) at-begun k)) ∙ ap (λ u. said_at z u (sought_from x r.spot.tomb rest)) (sym g.tomb);
             static_row = n.4 ∙ y.static_row;
           }))

@@ -2,8 +2,9 @@
 --     IsAnswered     a stream as a call left it that was answered
 --     ReaderCall     a call of the snapshot, of the stream below, or of the filler
 --     ReaderFilled   what calls leave of what is known
+--     IsGoneTo       where a call for the head or a seek leaves the place
 --     ReaderDid      a call of a reader: which calls, none but the snapshot's where what is passed is known, and that it is known afterwards
-use Rattle.std.specs.Prelude.{◌≡◌, ◌⊎◌, ◌≤◌, Bool, true, false, ⊤}
+use Rattle.std.specs.Prelude.{◌≡◌, ◌⊎◌, ◌≤◌, Bool, true, false, ⊤, []}
 use Rattle.rc_position.specs.declared.positions.Pos.{Pos}
 use Rattle.rc_position.specs.Position.{IsBefore}
 use Rattle.rc_mutation.specs.declared.fragments.HeadAt.{HeadAt}
@@ -13,7 +14,8 @@ use Rattle.rc_stream.specs.Snapshot.{There, Unlost}
 use Rattle.rc_cacheread.specs.declared.readers.CacheReader.{CacheReader}
 use Rattle.rc_cacheread.specs.Passing.{IsKnownFrom, IsKnownOver}
 use Rattle.rc_cacheread.specs.Sharing.{IsStaticRowKnown, OfBelow, OfFiller, OfKnown, StaysReader}
-use Rattle.rc_cacheread.specs.Spots.{stand}
+use Rattle.rc_cacheread.specs.declared.spots.Spot.{Spot}
+use Rattle.rc_cacheread.specs.Spots.{front, stand}
 
 -- a call of a snapshot over its home
 abbrev pub KnownStep : {K H : Type 0} → (K → H → Call → Bool → K → H → Type 0) → Bool → K × H → K × H → Type 0
@@ -65,10 +67,18 @@ pub record ReaderFilled {K P H : Type 0} (kn : OfKnown K H) (fi : OfFiller P H) 
   pub static_row : Unlost (fi.may p h) (fi.lost h) (fi.lost g) (IsStaticRowKnown (kn.heads k h) → IsStaticRowKnown (kn.heads l g))
   pub now : Unlost (fi.may p h) (fi.lost h) (fi.lost g) this
 
--- a call of a reader is a chain of calls of its parts, a refused one last, and goes on; where what it passes is known, of the snapshot alone, and it still is known; where the filler may fill and nothing was lost, what it passed is known afterwards; of the writes of which it was a reader it is one still
+-- a call for the head leaves the place, and what is due there; where nothing is due, an answered seek to a position that is not before the place goes there
+abbrev pub IsGoneTo : Call → Bool → Spot → Spot → Type 0
+IsGoneTo OfHead ok s t = t ≡ s
+IsGoneTo (OfSeek x) true s t = front s ≡ [] → Reaches (stand s) x → stand t ≡ x
+IsGoneTo (OfSeek x) false s t = ⊤
+IsGoneTo (OfNext y) ok s t = ⊤
+
+-- a call of a reader is a chain of calls of its parts, a refused one last, and goes on, a seek of one at which nothing is due to where it was sent; where what it passes is known, of the snapshot alone, and it still is known; where the filler may fill and nothing was lost, what it passed is known afterwards; of the writes of which it was a reader it is one still
 pub record ReaderDid {K F P H W : Type 0} (kn : OfKnown K H) (be : OfBelow F H W) (fi : OfFiller P H) (r : CacheReader K F P) (h : H) (w : W) (c : Call) (ok : Bool) (n : CacheReader K F P) (g : H) (v : W) : Type 0 where
   pub calls : InTurn (ReaderCall kn be fi c) ok (reader_state r h w) (reader_state n g v)
   pub on : Reaches (stand r.spot) (stand n.spot)
+  pub gone : IsGoneTo c ok r.spot n.spot
   pub quiet : IsKnownFor c (kn.knows r.known h) (kn.heads r.known h) (stand r.spot) r.to → CallsSnapshotAlone kn ok (reader_state r h w) (reader_state n g v) × IsKnownFor c (kn.knows n.known g) (kn.heads n.known g) (stand n.spot) n.to
   pub filled : ReaderFilled kn fi r.known r.filler h n.known n.filler g (IsFilledFor c ok (kn.knows n.known g) (kn.heads n.known g) (stand r.spot) (stand n.spot))
   pub stays : StaysReader kn be fi r h w n g v

@@ -29,7 +29,7 @@ use Rattle.rc_mutation.specs.Slices.{in_slice}
 use Rattle.rc_mutation.specs.Source.{IsMutation}
 use Rattle.rc_mutation.specs.laws.FragMerge.{changes-placed, fragment_of, merge, merge_into, merge-in_order, rows-placed}
 use Rattle.rc_query.specs.declared.lines.OutLine.{OutLine}
-use Rattle.rc_query.specs.laws.Answers.{own_cover, own_line, row_line}
+use Rattle.rc_query.specs.laws.Answers.{own_line, row_line}
 
 -- the line of a fragment that is a row in a slice, under the partition tombstone and the range tombstone in force
 abbrev pub inner_line : Slice → Option Tomb → Option Tomb → Frag → Option OutLine

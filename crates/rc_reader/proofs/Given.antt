@@ -1,12 +1,12 @@
 -- What a read gives of the lines that are left, by those that are made.
-use Rattle.std.specs.Prelude.{◌≡◌, ◌⊎◌, ◌<◌, ◌≤◌, ◌+◌, ℕ, true, IsTrue, List, [], ◌++◌, length, take, drop, nat_lt}
-use Rattle.std.proofs.Common.{refl, sym, ap, ◌∙◌, subst, arith, inl, inr, length-append}
+use Rattle.std.specs.Prelude.{◌≡◌, ◌⊎◌, ℕ, IsTrue, List, [], ◌++◌, length, take, drop, nat_lt}
+use Rattle.std.proofs.Common.{sym, ap, ◌∙◌, arith, inl, inr, length-append, length-drop}
 use Rattle.std.proofs.lemmas.Bool.{lt-ltb, ltb-true}
 use Rattle.std.proofs.lemmas.List.{append_cancel_left, append-nil, drop-append-le, take-append-le}
 use Rattle.std.specs.Option.{option_to_list}
 use Rattle.rc_query.specs.declared.lines.OutLine.{OutLine}
 use Rattle.rc_query.specs.Compacting.{compacted_lines}
-use Rattle.rc_reader.specs.Left.{Remains, lines_before, until}
+use Rattle.rc_reader.specs.Left.{Remains, until}
 use Rattle.rc_reader.specs.calls.Making.{AreEnough}
 use Rattle.rc_reader.specs.declared.work.Work.{Work}
 use Rattle.rc_reader.proofs.Holding.{Seen}
@@ -36,6 +36,12 @@ left-list n made others lines e (inr s) =
     let none : others ≡ [] = none-behind made others (sym s ∙ e) in
     ap (drop n) s ∙ sym (append-nil (drop n made)) ∙ ap (λ ls. drop n made ++ ls) (sym none)
 
+next-list : (n : ℕ) (made others lines : Lines) → lines ≡ made ++ others → IsMade n made lines → take 1 (drop n made) ≡ take 1 (drop n lines)
+next-list n made others lines e (inl t) =
+    let lt = ltb-true n (length made) t in
+    sym (take-append-le 1 (drop n made) others (omega (arith, lt, length-drop n made))) ∙ ap (take 1) (sym (left-list n made others lines e (inl t)))
+next-list n made others lines e (inr s) = ap (λ ls. take 1 (drop n ls)) (sym s)
+
 -- ---- of works
 
 abbrev others_of : (P : Seen) (v : Work) (lines : Lines) → Remains P v lines → Lines
@@ -51,6 +57,9 @@ module _ (n : ℕ) (P Q : Seen) (w v : Work) (on : (lines : Lines) → Remains P
 
   pub tells : (lines : Lines) → Remains P w lines → nat_lt n (length v.lines.items) ≡ nat_lt n (length lines)
   tells lines h = let k = on lines h in more-list n v.lines.items (others_of Q v lines k) lines k.are (made-is n P w v enough lines h)
+
+  pub nexts : (lines : Lines) → Remains P w lines → take 1 (drop n v.lines.items) ≡ take 1 (drop n lines)
+  nexts lines h = let k = on lines h in next-list n v.lines.items (others_of Q v lines k) lines k.are (made-is n P w v enough lines h)
 
   pub leaves : (u : Work) → u.taken ≡ v.taken → u.compactor ≡ v.compactor → u.to ≡ v.to → u.lines.items ≡ drop n v.lines.items → (lines : Lines) → Remains P w lines → Remains Q u (drop n lines)
   leaves u t c to l lines h = let k = on lines h in record {

@@ -1,5 +1,5 @@
 -- What calls one after another make of a home and a store, and name as damaged.
-use Rattle.std.specs.Prelude.{◌≡◌, ℕ, zero, suc, Result, Ok, Err, IfErr}
+use Rattle.std.specs.Prelude.{◌≡◌, ℕ, zero, suc, Ok, Err}
 use Rattle.std.proofs.Common.{refl, sym, subst}
 use Rattle.rc_stream.specs.declared.streams.StreamErr.{StreamErr}
 use Rattle.rc_stream.specs.declared.streams.StreamErr.TheVariants.{Fault, Damaged, NoMemory}

@@ -1,9 +1,9 @@
 -- Ordered streams of one head that say the same at each position of a slice have the same lines there.
-use Rattle.std.specs.Prelude.{◌≡◌, ℕ, Bool, true, false, cond, ◌&&◌, ◌||◌, IsTrue, List, [], ◌∷◌, ◌++◌, Option, Some, None, ⊤}
-use Rattle.std.proofs.Common.{refl, sym, ap, ◌∙◌, subst, T}
+use Rattle.std.specs.Prelude.{◌≡◌, ℕ, true, false, cond, IsTrue, List, [], ◌∷◌, ◌++◌, Option, Some, None, ⊤}
+use Rattle.std.proofs.Common.{refl, sym, ap, ◌∙◌, T}
 use Rattle.std.specs.declared.cmp.Ordering.{Ordering}
 use Rattle.std.specs.declared.cmp.Ordering.TheVariants.{Less, Equal, Greater}
-use Rattle.std.specs.Ordering.{eq_by_cmp, is_eq, is_lt, nat_cmp, ordering_then}
+use Rattle.std.specs.Ordering.{eq_by_cmp, is_lt, ordering_then}
 use Rattle.std.specs.Cmp.{tied_itself}
 use Rattle.std.specs.List.{cons_option, filter_map}
 use Rattle.std.specs.FinMap.{find, is_sorted}
@@ -22,18 +22,17 @@ use Rattle.rc_position.specs.laws.Orders.{pos_cmp_total}
 use Rattle.rc_mutation.specs.laws.ByKey.{same_key, same_rows}
 use Rattle.rc_mutation.specs.declared.fragments.Frag.{Frag}
 use Rattle.rc_mutation.specs.declared.fragments.Frag.TheVariants as frag
-use Rattle.rc_mutation.specs.Fragments.{place_order, tomb_after}
+use Rattle.rc_mutation.specs.Fragments.{tomb_after}
 use Rattle.rc_mutation.specs.Slices.{in_slice}
 use Rattle.rc_query.specs.declared.lines.OutLine.{OutLine}
 use Rattle.rc_query.specs.Answer.{static_line}
 use Rattle.rc_query.specs.laws.Answers.{row_line}
 use Rattle.rc_stream.specs.Merging.{IsOrdered, StandsBefore, place_of, rows_here}
-use Rattle.rc_stream.specs.Stream.{Stream, force, is_passed, row_at, says, sought_stream}
+use Rattle.rc_stream.specs.Stream.{Stream, force, says}
 use Rattle.rc_stream.specs.laws.Ordered.{Lt, passed-row}
 use Rattle.std.specs.Option.{option_to_list}
-use Rattle.rc_query.specs.Compacting.{compacted_lines}
-use Rattle.rc_reader.specs.Left.{slice_lines, until}
-use Rattle.rc_reader.proofs.Along.{inner_line, inner_lines}
+use Rattle.rc_reader.specs.Left.{slice_lines}
+use Rattle.rc_reader.proofs.Along.{inner_lines}
 use Rattle.rc_reader.proofs.Slices.{row-lines}
 
 abbrev Keyed : Type 0

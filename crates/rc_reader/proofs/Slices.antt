@@ -1,11 +1,11 @@
 -- The lines of an ordered stream in a slice are those of its rows there; so those of a mutation's stream are its answer.
-use Rattle.std.specs.Prelude.{◌≡◌, ℕ, Bool, true, false, cond, ◌&&◌, List, [], ◌∷◌, ◌++◌, Option, Some, None}
+use Rattle.std.specs.Prelude.{◌≡◌, Bool, true, false, cond, ◌&&◌, List, [], ◌∷◌, ◌++◌, Option, Some, None}
 use Rattle.std.proofs.Common.{refl, sym, ap, ◌∙◌, subst}
 use Rattle.std.specs.declared.cmp.Ordering.{Ordering}
 use Rattle.std.specs.declared.cmp.Ordering.TheVariants.{Less, Equal, Greater}
 use Rattle.std.specs.Ordering.{is_le, is_lt, nat_cmp, ordering_reverse, ordering_then}
 use Rattle.std.specs.Option.{option_to_list}
-use Rattle.std.specs.List.{cons_option, filter_map}
+use Rattle.std.specs.List.{cons_option}
 use Rattle.rc_cell.specs.declared.rows.Row.{Row}
 use Rattle.rc_cell.specs.declared.writes.Tomb.{Tomb}
 use Rattle.rc_cell.specs.Greatest.{greater}
@@ -18,16 +18,16 @@ use Rattle.rc_position.specs.laws.Orders.{pos_cmp_same, pos_cmp_total}
 use Rattle.rc_mutation.specs.declared.fragments.Frag.{Frag}
 use Rattle.rc_mutation.specs.declared.fragments.Frag.TheVariants as frag
 use Rattle.rc_mutation.specs.declared.mutations.Mutation.{Mutation}
-use Rattle.rc_mutation.specs.Fragments.{fragments, place_order, rows_and_changes, tomb_after}
+use Rattle.rc_mutation.specs.Fragments.{rows_and_changes, tomb_after}
 use Rattle.rc_mutation.specs.Slices.{in_slice}
 use Rattle.rc_mutation.specs.Source.{IsMutation}
 use Rattle.rc_query.specs.declared.lines.OutLine.{OutLine}
 use Rattle.rc_query.specs.Answer.{answer, static_line}
-use Rattle.rc_query.specs.Compacting.{compacted_all, compacted_lines, fragment_line}
-use Rattle.rc_query.specs.laws.Answers.{answer-one, own_line, row_line}
+use Rattle.rc_query.specs.Compacting.{compacted_lines, fragment_line}
+use Rattle.rc_query.specs.laws.Answers.{answer-one, row_line}
 use Rattle.rc_stream.specs.Merging.{IsInner, IsOrdered, StandsBefore, place_of}
 use Rattle.rc_stream.specs.Showing.{IsFromStart}
-use Rattle.rc_stream.specs.Stream.{Stream, force, is_passed, onward, opening, sought_stream, stream_of}
+use Rattle.rc_stream.specs.Stream.{Stream, force, is_passed, onward, opening, sought_stream}
 use Rattle.rc_stream.specs.laws.Ordered.{not_passed}
 use Rattle.rc_stream.specs.laws.Sought.{onward-ordered}
 use Rattle.rc_reader.specs.Left.{is_short_of, slice_lines, until}

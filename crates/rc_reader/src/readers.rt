@@ -1,6 +1,6 @@
 //! Readers of a slice of one partition.
 
-ghost use Rattle.std.specs.Prelude.{◌≡◌, ◌≤◌, ◌+◌, ℕ, Bool, List, None, false, true, length, take, nat_lt, IfErr, IfOk, IsSome, IsTrue, MatchResult, OnErr, OnOk};
+ghost use Rattle.std.specs.Prelude.{◌≡◌, ◌≤◌, ◌+◌, ℕ, Bool, List, None, false, true, length, take, drop, nat_lt, IfErr, IfOk, IsSome, IsTrue, MatchResult, OnErr, OnOk};
 ghost use Rattle.rc_outside.specs.Files.{HoldsSameFiles};
 ghost use Rattle.rc_position.specs.declared.positions.Pos.{Pos};
 ghost use Rattle.rc_query.specs.declared.lines.OutLine.{OutLine};
@@ -17,7 +17,7 @@ use rc_outside::Store;
 use rc_position::{Pos, Slice};
 use rc_query::Lines;
 use rc_stream::{Frags, StreamErr};
-use std::alloc::Global;
+use std::alloc::{AllocError, Global};
 
 /// A reader of a slice of one partition: it gives the lines of what its stream has there, so many at a time. Fragments are taken from
 /// the stream only as lines are asked for, up to the line behind those that are given, by which it is told whether more are left.
@@ -80,6 +80,7 @@ impl<S> Reader<S> {
         ensures gives { (lines : List OutLine) → AreLeft S.seen self.old home.old store.old lines → IfOk result (λ gave. gave.0 ≡ take count lines) }
         ensures more { (lines : List OutLine) → AreLeft S.seen self.old home.old store.old lines → IfOk result (λ gave. gave.1 ≡ nat_lt count (length lines)) }
         ensures left { (lines : List OutLine) → AreLeft S.seen self.old home.old store.old lines → AreLeft S.seen self.new home.new store.new (left_after result count lines) }
+        ensures made { (lines : List OutLine) → AreLeft S.seen self.old home.old store.old lines → IfOk result (λ _. take 1 self.new.work.lines.items ≡ take 1 (drop count lines)) }
         ensures to { self.new.work.to ≡ self.old.work.to }
         ensures may { MayGive S.ready self.new home.new store.new }
         ensures spends { (left : S → ℕ) → Spends S.did left W.asks → MatchResult result (λ _. W.asks store.new + left self.new.stream ≤ W.asks store.old + left self.old.stream) (λ _. W.asks store.new ≤ W.asks store.old + left self.old.stream) }
@@ -97,6 +98,16 @@ impl<S> Reader<S> {
             },
             Err(error) => Err(error),
         }
+    }
+
+    /// The next line that is left, where it is made: behind a read that was answered it is, if any is left. The only error is want of
+    /// memory.
+    pub fn next_made(&self, alloc: Global) -> Result<Lines, AllocError>
+        ensures { IfOk result (λ next. next ≡ take 1 self.now.work.lines.items) }
+    {
+        let made = self.work.lines.as_slice();
+        let next = made.len().min(1);
+        Ok(Lines::from_slice(alloc, &made[..next])?)
     }
 
     /// The stream of a reader that is done with, as it is.

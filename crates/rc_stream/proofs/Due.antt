@@ -1,11 +1,12 @@
 -- A seek that is due in a merge of two parts.
-use Rattle.std.specs.Prelude.{◌≡◌, Option, Some, None, Result, Ok, Err, IfOk, IfSome}
+use Rattle.std.specs.Prelude.{◌≡◌, Bool, true, false, Option, Some, None, Result, Ok, Err, IfOk, IfSome}
 use Rattle.std.proofs.Common.{refl, sym, ap, ◌∙◌, subst}
 use Rattle.rc_position.specs.declared.positions.Pos.{Pos}
 use Rattle.rc_mutation.specs.declared.fragments.Head.{Head}
 use Rattle.rc_stream.specs.declared.holding.Held.{Held}
 use Rattle.rc_stream.specs.declared.streams.StreamErr.{StreamErr}
 use Rattle.rc_stream.specs.Both.{AfterDue, AheadOfDue}
+use Rattle.rc_stream.specs.Did.{Call.OfHead, Call.OfNext, IsDueNow}
 use Rattle.rc_stream.specs.Places.{Reaches}
 use Rattle.rc_stream.specs.Stream.{Stream, sought_stream}
 use Rattle.rc_stream.specs.Merging.{joined_head}
@@ -109,3 +110,12 @@ pub head-after : (P : Seen) (due : Option Pos) (r : Result Head StreamErr) (s : 
 head-after P None r s is b = is s b
 head-after P (Some x) (Ok v) s is b = is b.0 b.1 ∙ ap (λ (t : Stream). t.head) (sym b.2)
 head-after P (Some x) (Err e) s is b = tt
+
+-- the seek that is due after a call for the head, and after one for the next
+pub due-of-head : (due now : Option Pos) (ok : Bool) → now ≡ due → IsDueNow due OfHead ok now
+due-of-head due now true e = e
+due-of-head due now false e = tt
+
+pub due-of-next : (due now : Option Pos) (y : Pos) (ok : Bool) → now ≡ None → IsDueNow due (OfNext y) ok now
+due-of-next due now y true e = e
+due-of-next due now y false e = tt

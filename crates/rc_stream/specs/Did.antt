@@ -1,7 +1,7 @@
 -- What a call of a stream did to it, to its home and to its store.
 --     ReachesEnd      a position is not before the end of a call up to another one
 --     InTurn       steps one after another, of which a refused one is the last
---     MergeDid    a call of a merge is a chain of calls of its parts
+--     MergeDid    a call of a merge is a chain of calls of its parts; and which seek is due afterwards
 --     Spends      what calls ask for is bounded by what is left to be asked for
 --     IsQuiet     a settled stream asks for nothing
 use Rattle.std.specs.Prelude.{◌≡◌, ◌⊎◌, ◌≤◌, ◌+◌, ◌&&◌, ℕ, zero, suc, ⊤, Bool, true, false, IsTrue, Option, Some, None, Result, Ok, Err}
@@ -81,9 +81,19 @@ PartsDid did did' due OfHead ok s t = HeadsOnce did did' ok s t
 PartsDid did did' due (OfSeek x) ok s t = s ≡ t
 PartsDid did did' due (OfNext y) ok s t = InTurn (OneCall did did' due y) ok s t
 
--- a call of a merge of two parts, where a seek may be due
-pub record MergeDid {A B H W : Type 0} (did : Deed A H W) (did' : Deed B H W) (due : Option Pos) (c : Call) (ok : Bool) (s t : A × B × H × W) : Type 0 where
+-- the seek that is due after an answered call: the one that was; where both are to go on that one; and none once the next was asked for
+abbrev pub IsDueNow : Option Pos → Call → Bool → Option Pos → Type 0
+IsDueNow due OfHead true now = now ≡ due
+IsDueNow due OfHead false now = ⊤
+IsDueNow due (OfSeek x) true now = now ≡ Some x
+IsDueNow due (OfSeek x) false now = ⊤
+IsDueNow due (OfNext y) true now = now ≡ None
+IsDueNow due (OfNext y) false now = ⊤
+
+-- a call of a merge of two parts, where a seek may be due before it and after it
+pub record MergeDid {A B H W : Type 0} (did : Deed A H W) (did' : Deed B H W) (due now : Option Pos) (c : Call) (ok : Bool) (s t : A × B × H × W) : Type 0 where
   pub calls : PartsDid did did' due c ok s t
+  pub leaves : IsDueNow due c ok now
 
 -- the two streams of a merge, its home and its store
 abbrev pub merge_state : {A B H W : Type 0} → Merge A B → H → W → A × B × H × W
@@ -91,7 +101,7 @@ merge_state m h w = (m.ours.stream, m.theirs.stream, h, w)
 
 -- a call of a merge, by its parts' calls
 abbrev pub merge_did : {A B H W : Type 0} → Deed A H W → Deed B H W → Deed (Merge A B) H W
-merge_did did did' m h w c ok n g v = MergeDid did did' m.due c ok (merge_state m h w) (merge_state n g v)
+merge_did did did' m h w c ok n g v = MergeDid did did' m.due n.due c ok (merge_state m h w) (merge_state n g v)
 
 -- what is left to be asked for is all that calls ask for: an answered one leaves that much less, and a refused one asks for no more
 pub record Spends {S H W : Type 0} (did : Deed S H W) (left : S → ℕ) (asks : W → ℕ) : Type 0 where

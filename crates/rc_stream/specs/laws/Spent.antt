@@ -76,25 +76,25 @@ module _ {A B H W : Type 0} (did : Deed A H W) (did' : Deed B H W) (asks : W →
     within : (s : Both) → part s ≤ whole s
     within s = omega arith
 
-    merge-answered : (due : Option Pos) (c : Call) (s t : Both) → MergeDid did did' due c true s t → whole t ≤ whole s
-    merge-answered due OfHead s t m = (let d = m.calls in omega (arith, our-answered OfHead s d.0 d.1, their-answered OfHead d.0 t d.2))
-    merge-answered due (OfSeek x) s t m = subst (λ z. whole z ≤ whole s) m.calls (omega arith)
-    merge-answered due (OfNext y) s t m = chain-answered (OneCall did did' due y) whole part (one-answered due y) (one-refused due y) within s t m.calls
+    merge-answered : (due now : Option Pos) (c : Call) (s t : Both) → MergeDid did did' due now c true s t → whole t ≤ whole s
+    merge-answered due now OfHead s t m = (let d = m.calls in omega (arith, our-answered OfHead s d.0 d.1, their-answered OfHead d.0 t d.2))
+    merge-answered due now (OfSeek x) s t m = subst (λ z. whole z ≤ whole s) m.calls (omega arith)
+    merge-answered due now (OfNext y) s t m = chain-answered (OneCall did did' due y) whole part (one-answered due y) (one-refused due y) within s t m.calls
 
     heads-refused : (s t : Both) → OurCall did OfHead false s t ⊎ ((u : Both) × OurCall did OfHead true s u × ((ok : Bool) × TheirCall did' OfHead ok u t)) → part t ≤ whole s
     heads-refused s t (inl d) = our-refused OfHead s t d
     heads-refused s t (inr d) = omega (arith, our-answered OfHead s d.0 d.1, their-any d.2.0 OfHead d.0 t d.2.1)
 
-    merge-refused : (due : Option Pos) (c : Call) (s t : Both) → MergeDid did did' due c false s t → part t ≤ whole s
-    merge-refused due OfHead s t m = heads-refused s t m.calls
-    merge-refused due (OfSeek x) s t m = subst (λ z. part z ≤ whole s) m.calls (within s)
-    merge-refused due (OfNext y) s t m = chain-refused (OneCall did did' due y) whole part (one-answered due y) (one-refused due y) within s t m.calls
+    merge-refused : (due now : Option Pos) (c : Call) (s t : Both) → MergeDid did did' due now c false s t → part t ≤ whole s
+    merge-refused due now OfHead s t m = heads-refused s t m.calls
+    merge-refused due now (OfSeek x) s t m = subst (λ z. part z ≤ whole s) m.calls (within s)
+    merge-refused due now (OfNext y) s t m = chain-refused (OneCall did did' due y) whole part (one-answered due y) (one-refused due y) within s t m.calls
 
     -- a merge spends what its parts do
     pub merge-spends : Spends (merge_did did did') (both_left left left') asks
     merge-spends = record {
-      answered = λ s h w c t g v m. merge-answered s.due c (merge_state s h w) (merge_state t g v) m;
-      refused = λ s h w c t g v m. merge-refused s.due c (merge_state s h w) (merge_state t g v) m;
+      answered = λ s h w c t g v m. merge-answered s.due t.due c (merge_state s h w) (merge_state t g v) m;
+      refused = λ s h w c t g v m. merge-refused s.due t.due c (merge_state s h w) (merge_state t g v) m;
     }
 
   module _ (settled : A → Bool) (settled' : B → Bool) (ours : IsQuiet did settled asks) (theirs : IsQuiet did' settled' asks) where
@@ -117,20 +117,20 @@ module _ {A B H W : Type 0} (did : Deed A H W) (did' : Deed B H W) (asks : W →
     one-quiet due y ok s t (inl c) = our-quiet c.0 ok s t c.2
     one-quiet due y ok s t (inr c) = their-quiet c.0 ok s t c.2
 
-    heads-quiet : (ok : Bool) (due : Option Pos) (s t : Both) → MergeDid did did' due OfHead ok s t → Keeps s t
-    heads-quiet true due s t m = (let d = m.calls in through s d.0 t (our-quiet OfHead true s d.0 d.1) (their-quiet OfHead true d.0 t d.2))
-    heads-quiet false due s t m = first_refused s t m.calls where
+    heads-quiet : (ok : Bool) (due now : Option Pos) (s t : Both) → MergeDid did did' due now OfHead ok s t → Keeps s t
+    heads-quiet true due now s t m = (let d = m.calls in through s d.0 t (our-quiet OfHead true s d.0 d.1) (their-quiet OfHead true d.0 t d.2))
+    heads-quiet false due now s t m = first_refused s t m.calls where
       first_refused : (s t : Both) → OurCall did OfHead false s t ⊎ ((u : Both) × OurCall did OfHead true s u × ((ok : Bool) × TheirCall did' OfHead ok u t)) → Keeps s t
       first_refused s t (inl d) = our-quiet OfHead false s t d
       first_refused s t (inr d) = through s d.0 t (our-quiet OfHead true s d.0 d.1) (their-quiet OfHead d.2.0 d.0 t d.2.1)
 
-    merge-quiet : (due : Option Pos) (c : Call) (ok : Bool) (s t : Both) → MergeDid did did' due c ok s t → Keeps s t
-    merge-quiet due OfHead ok s t m = heads-quiet ok due s t m
-    merge-quiet due (OfSeek x) ok s t m = subst (Keeps s) m.calls (same s)
-    merge-quiet due (OfNext y) ok s t m = chain-keeps (OneCall did did' due y) Keeps same through (one-quiet due y) ok s t m.calls
+    merge-quiet : (due now : Option Pos) (c : Call) (ok : Bool) (s t : Both) → MergeDid did did' due now c ok s t → Keeps s t
+    merge-quiet due now OfHead ok s t m = heads-quiet ok due now s t m
+    merge-quiet due now (OfSeek x) ok s t m = subst (Keeps s) m.calls (same s)
+    merge-quiet due now (OfNext y) ok s t m = chain-keeps (OneCall did did' due y) Keeps same through (one-quiet due y) ok s t m.calls
 
-    merge-head : (due : Option Pos) (s t : Both) → MergeDid did did' due OfHead true s t → IsTrue (settled t.0) × IsTrue (settled' t.1)
-    merge-head due s t m = (let d = m.calls in (subst (λ z. IsTrue (settled z)) (sym d.2.1) (ours.head s.0 s.2 s.3 d.0.0 d.0.2 d.0.3 d.1.0), theirs.head d.0.1 d.0.2 d.0.3 t.1 t.2 t.3 d.2.0))
+    merge-head : (due now : Option Pos) (s t : Both) → MergeDid did did' due now OfHead true s t → IsTrue (settled t.0) × IsTrue (settled' t.1)
+    merge-head due now s t m = (let d = m.calls in (subst (λ z. IsTrue (settled z)) (sym d.2.1) (ours.head s.0 s.2 s.3 d.0.0 d.0.2 d.0.3 d.1.0), theirs.head d.0.1 d.0.2 d.0.3 t.1 t.2 t.3 d.2.0))
 
     first_of : (a b : Bool) → IsTrue (a && b) → IsTrue a
     first_of true b h = refl
@@ -147,6 +147,6 @@ module _ {A B H W : Type 0} (did : Deed A H W) (did' : Deed B H W) (asks : W →
     -- a merge of parts that are settled asks for nothing
     pub merge-is-quiet : IsQuiet (merge_did did did') (both_settled settled settled') asks
     merge-is-quiet = record {
-      quiet = λ s h w c ok t g v q m. (let p = merge-quiet s.due c ok (merge_state s h w) (merge_state t g v) m (first_of (settled s.ours.stream) (settled' s.theirs.stream) q) (second_of (settled s.ours.stream) (settled' s.theirs.stream) q) in (p.0, both_of (settled t.ours.stream) (settled' t.theirs.stream) p.1 p.2));
-      head = λ s h w t g v m. (let p = merge-head s.due (merge_state s h w) (merge_state t g v) m in both_of (settled t.ours.stream) (settled' t.theirs.stream) p.0 p.1);
+      quiet = λ s h w c ok t g v q m. (let p = merge-quiet s.due t.due c ok (merge_state s h w) (merge_state t g v) m (first_of (settled s.ours.stream) (settled' s.theirs.stream) q) (second_of (settled s.ours.stream) (settled' s.theirs.stream) q) in (p.0, both_of (settled t.ours.stream) (settled' t.theirs.stream) p.1 p.2));
+      head = λ s h w t g v m. (let p = merge-head s.due t.due (merge_state s h w) (merge_state t g v) m in both_of (settled t.ours.stream) (settled' t.theirs.stream) p.0 p.1);
     }

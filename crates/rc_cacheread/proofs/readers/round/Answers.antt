@@ -112,6 +112,7 @@ returns-in-Ok-Given-clause-did g c = λ y covers.
     record {
       calls = chain-none (ReaderCall kn be fi (OfNext y)) true (r.known, r.below, r.filler, h, w);
       on = subst (Reaches (stand r.spot)) (sym e.3) (reach-itself (stand r.spot));
+      gone = tt;
       quiet = λ q. ((chain-none (KnownStep kn.did) true (r.known, h), refl, refl, refl), subst (λ x. IsKnownFor (OfNext y) (kn.knows r.known h) (kn.heads r.known h) x r.to) (sym e.3) q);
       filled = filled-still kn fi r.known r.filler h (IsKnownOver (kn.knows r.known h) (stand r.spot) (stand c.give.new.self)) (over-nothing (kn.knows r.known h) (stand r.spot) (stand c.give.new.self) e.3);
       stays = stays-alike kn be fi r c.give.new.self h w e.3 e.4;
@@ -129,6 +130,7 @@ returns-in-Ok-Nothing-clause-did g c = λ y covers.
     record {
       calls = chain-none (ReaderCall kn be fi (OfNext y)) true (r.known, r.below, r.filler, h, w);
       on = subst (Reaches (stand r.spot)) (sym e.0.from) (reach-itself (stand r.spot));
+      gone = tt;
       quiet = λ q. ((chain-none (KnownStep kn.did) true (r.known, h), refl, refl, refl), subst (λ x. IsKnownFor (OfNext y) (kn.knows r.known h) (kn.heads r.known h) x r.to) (sym e.0.from) q);
       filled = filled-still kn fi r.known r.filler h (IsKnownOver (kn.knows r.known h) (stand r.spot) (stand c.give.new.self)) (over-nothing (kn.knows r.known h) (stand r.spot) (stand c.give.new.self) e.0.from);
       stays = stays-alike kn be fi r c.give.new.self h w e.0.from e.0.tomb;
@@ -146,6 +148,7 @@ returns-in-Ok-Closed-clause-did g c = λ y covers.
     record {
       calls = chain-none (ReaderCall kn be fi (OfNext y)) true (r.known, r.below, r.filler, h, w);
       on = subst (Reaches (stand r.spot)) (sym e.2) (reach-itself (stand r.spot));
+      gone = tt;
       quiet = λ q. ((chain-none (KnownStep kn.did) true (r.known, h), refl, refl, refl), subst (λ x. IsKnownFor (OfNext y) (kn.knows r.known h) (kn.heads r.known h) x r.to) (sym e.2) q);
       filled = filled-still kn fi r.known r.filler h (IsKnownOver (kn.knows r.known h) (stand r.spot) (stand c.give.new.self)) (over-nothing (kn.knows r.known h) (stand r.spot) (stand c.give.new.self) e.2);
       stays = stays-closed kn be fi r c.give.new.self h w e;
@@ -168,6 +171,7 @@ returns-in-Ok-Unread-clause-did g c = λ y covers.
     record {
       calls = c.read_part.ensures.did y now;
       on = on;
+      gone = tt;
       quiet = λ q.
           let v = known-here (kn.knows r.known h) (stand r.spot) place k (q place (subst (λ z. Reaches (stand r.spot) z) (sym k) (reach-itself (stand r.spot))) (end-reaches kn be fi n h w c.args.upto.now y e.1 e.2 now) e.3) in
           (c.read_part.ensures.quiet v.0 v.1, still-known (kn.knows r.known h) (kn.knows c.read_part.new.reader.known c.read_part.new.home) (c.read_part.ensures.keeps v.0 v.1) (stand r.spot) (stand c.read_part.new.reader.spot) (whole-ends (kn.knows r.known h) (stand n.spot) (stand r.spot) (stand c.read_part.new.reader.spot) (stand c.read_part.new.reader.spot) (sym e.0.from) refl (c.read_part.ensures.whole v.0 v.1)) y (kn.heads r.known h) (kn.heads c.read_part.new.reader.known c.read_part.new.home) r.to c.read_part.new.reader.to on (sym c.read_part.ensures.to) q);
@@ -187,6 +191,7 @@ returns-in-Err-clause-did g c = λ y covers.
     record {
       calls = chain-none (ReaderCall kn be fi (OfNext y)) false (r.known, r.below, r.filler, h, w);
       on = subst (λ s. Reaches (stand r.spot) (stand s)) (sym same) (reach-itself (stand r.spot));
+      gone = tt;
       quiet = λ q. ((chain-none (KnownStep kn.did) false (r.known, h), refl, refl, refl), subst (λ s. IsKnownFor (OfNext y) (kn.knows r.known h) (kn.heads r.known h) (stand s) r.to) (sym same) q);
       filled = filled-still kn fi r.known r.filler h (IsKnownOver (kn.knows r.known h) (stand r.spot) (stand c.give.new.self)) (over-nothing (kn.knows r.known h) (stand r.spot) (stand c.give.new.self) (ap stand same));
       stays = stays-alike kn be fi r c.give.new.self h w (ap stand same) (ap (λ (x : Spot). x.tomb) same);

@@ -49,6 +49,7 @@ returns-then-at-clause-did g c =
     record {
       calls = known-calls kn be fi OfHead r.below r.filler w true r.known c.head_known.new.self h c.head_known.new.home one;
       on = reach-itself (stand r.spot);
+      gone = refl;
       quiet = λ q. ((one, refl, refl, refl), λ a k. q a (left.heads a k));
       filled = filled-known kn be fi r.below r.filler w r.known c.head_known.new.self h c.head_known.new.home (IsStaticRowKnown (kn.heads c.head_known.new.self c.head_known.new.home)) left c.head_known.ensures.knows (λ a k. subst (λ (z : HeadAt). IsTrue z.known) (c.requires.ready.shares.one_head r.known h c.in-Ok.at a c.in-Ok.ensures.head (left.heads a k)) c.if-at.true);
       stays = stays-known kn be fi r c.head_known.new.self r.spot r.stage r.lags h c.head_known.new.home w left c.head_known.ensures.knows (reach-itself (stand r.spot)) (carries-same (be.seen r.below h w) (be.seen r.below c.head_known.new.home w) r.stage (stand r.spot) r.spot.tomb left.seen);
@@ -124,6 +125,7 @@ returns-clause-did g c =
     record {
       calls = chain-after (ReaderCall kn be fi OfHead) (has_answer c.head_below.result) (reader_state r h w) (c.head_known.new.self, r.below, r.filler, c.head_known.new.home, w) (reader_state c.head_below.new.reader c.head_below.new.home c.head_below.new.store) (known-calls kn be fi OfHead r.below r.filler w true r.known c.head_known.new.self h c.head_known.new.home one) c.head_below.ensures.calls;
       on = subst (λ s. Reaches (stand r.spot) (stand s)) (sym c.head_below.ensures.spot) (reach-itself (stand r.spot));
+      gone = c.head_below.ensures.spot;
       quiet = λ q. untrue (sym (q c.in-Ok.at c.in-Ok.ensures.head) ∙ c.if-at.false);
       filled = filled-then kn fi r.known c.head_known.new.self c.head_below.new.reader.known r.filler r.filler c.head_below.new.reader.filler h c.head_known.new.home c.head_below.new.home ⊤ (IsFilledFor OfHead (has_answer c.head_below.result) (kn.knows c.head_below.new.reader.known c.head_below.new.home) (kn.heads c.head_below.new.reader.known c.head_below.new.home) (stand r.spot) (stand c.head_below.new.reader.spot)) (filled-known kn be fi r.below r.filler w r.known c.head_known.new.self h c.head_known.new.home ⊤ left c.head_known.ensures.knows tt) c.head_below.ensures.filled;
       stays = λ writes d. c.head_below.ensures.stays writes (stays-known kn be fi r c.head_known.new.self r.spot r.stage r.lags h c.head_known.new.home w left c.head_known.ensures.knows (reach-itself (stand r.spot)) (carries-same (be.seen r.below h w) (be.seen r.below c.head_known.new.home w) r.stage (stand r.spot) r.spot.tomb left.seen) writes d);
@@ -157,6 +159,7 @@ returns-in-Err-clause-did g c =
     record {
       calls = known-calls kn be fi OfHead r.below r.filler w false r.known c.head_known.new.self h c.head_known.new.home one;
       on = reach-itself (stand r.spot);
+      gone = refl;
       quiet = λ q. ((one, refl, refl, refl), λ a k. q a (left.heads a k));
       filled = filled-known kn be fi r.below r.filler w r.known c.head_known.new.self h c.head_known.new.home ⊤ left c.head_known.ensures.knows tt;
       stays = stays-known kn be fi r c.head_known.new.self r.spot r.stage r.lags h c.head_known.new.home w left c.head_known.ensures.knows (reach-itself (stand r.spot)) (carries-same (be.seen r.below h w) (be.seen r.below c.head_known.new.home w) r.stage (stand r.spot) r.spot.tomb left.seen);

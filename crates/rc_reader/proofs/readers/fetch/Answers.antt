@@ -1,9 +1,9 @@
 -- One call for the next, or none.
-use Rattle.std.proofs.Common.{refl, sym, ap, ◌∙◌, true, false}
+use Rattle.std.proofs.Common.{refl, sym, ◌∙◌, true, false}
 use Rattle.rc_stream.specs.Did.{Call.OfNext}
 use Rattle.rc_reader.specs.Steps.{OneStep}
 use Rattle.rc_reader.proofs.Chains.{chain-none, chain-one}
-use Rattle.rc_reader.proofs.Holding.{HasGot, ended, goes-got, goes-on, is-there, left-got, left-on, not-there}
+use Rattle.rc_reader.proofs.Holding.{ended, goes-got, goes-on, is-there, left-got, left-on, not-there}
 use Rattle.rc_reader.proofs.Homes.{blames-error, blames-value, moved-none, moved-one}
 use Rattle.rc_reader.proofs.readers.fetch.Goals as goal
 

@@ -1,9 +1,9 @@
 -- A step goes on from where the steps before it came to.
-use Rattle.std.proofs.Common.{refl, sym, ap, ◌∙◌, true, false, length, arith, inl, inr}
+use Rattle.std.proofs.Common.{refl, sym, ◌∙◌, true, false, length, arith, inl, inr}
 use Rattle.std.proofs.lemmas.Bool.{ltb-false}
 use Rattle.rc_stream.specs.Did.{Call.OfNext}
 use Rattle.rc_reader.specs.Steps.{OneStep}
-use Rattle.rc_reader.proofs.Chains.{chain-after, chain-none, chain-stopped, many-many, many-none}
+use Rattle.rc_reader.proofs.Chains.{chain-after, chain-stopped, many-many, many-none}
 use Rattle.rc_reader.proofs.Homes.{blames-error, blames-memory, blames-value, moved-moved, moved-none}
 use Rattle.rc_reader.proofs.readers.make.Goals as goal
 

@@ -1,5 +1,5 @@
 -- What was taken is put in; where that is refused it is still taken.
-use Rattle.std.proofs.Common.{refl, sym, ap, ◌∙◌, subst, true, false, ℕ, ◌≤◌, length}
+use Rattle.std.proofs.Common.{sym, subst, ◌≤◌, length}
 use Rattle.rc_stream.specs.Did.{Call.OfNext}
 use Rattle.rc_reader.specs.Steps.{OneStep}
 use Rattle.rc_reader.proofs.Chains.{chain-stopped}

@@ -1,5 +1,6 @@
 -- A seek passes over what is due, or begins anew.
-use Rattle.std.proofs.Common.{true, false, refl, sym, subst}
+use Rattle.std.proofs.Common.{true, false, refl, sym, ap, subst}
+use Rattle.rc_stream.specs.Stream.{onward}
 use Rattle.rc_stream.specs.Did.{OfHead, OfSeek}
 use Rattle.rc_stream.specs.Places.{Reaches}
 use Rattle.rc_cacheread.specs.Did.{KnownStep, ReaderCall}
@@ -7,8 +8,8 @@ use Rattle.rc_cacheread.specs.Sharing.{of_below, of_filler, of_known}
 use Rattle.rc_cacheread.specs.Spots.{stand}
 use Rattle.rc_cacheread.specs.calls.Spots.{GoesOn}
 use Rattle.rc_cacheread.proofs.Chains.{chain-none}
-use Rattle.rc_cacheread.proofs.Orders.{reach-itself}
-use Rattle.rc_cacheread.proofs.Sought.{on-begun, ready-begun, sees-begun, sees-sought, stays-begun}
+use Rattle.rc_cacheread.proofs.Orders.{never-before, reach-itself}
+use Rattle.rc_cacheread.proofs.Sought.{at-begun, on-begun, ready-begun, sees-begun, sees-sought, stays-begun}
 use Rattle.rc_cacheread.proofs.Turning.{ready-alike, sees-alike, stays-alike}
 use Rattle.std.specs.Prelude.{⊤}
 use Rattle.rc_cacheread.proofs.Filled.{filled-still}
@@ -45,6 +46,7 @@ returns-in-Ok-false-clause-did g c =
     record {
       calls = chain-none (ReaderCall kn be fi (OfSeek c.args.to.now)) true (r.known, r.below, r.filler, h, w);
       on = subst (Reaches (stand r.spot)) (sym (subst (GoesOn c.args.to.now c.args.self.now.spot c.seek.new.self) c.in-Ok-false.field-0-test c.in-Ok-false.ensures.ok).from) (reach-itself (stand r.spot));
+      gone = λ none reaches. absurd (never-before c.args.to.now (stand r.spot) reaches ((subst (GoesOn c.args.to.now c.args.self.now.spot c.seek.new.self) c.in-Ok-false.field-0-test c.in-Ok-false.ensures.ok).before (ap (onward c.args.to.now) none)));
       quiet = λ q. ((chain-none (KnownStep kn.did) true (r.known, h), refl, refl, refl), tt);
       filled = filled-still kn fi r.known r.filler h ⊤ tt;
       stays = stays-alike kn be fi r c.seek.new.self h w (subst (GoesOn c.args.to.now c.args.self.now.spot c.seek.new.self) c.in-Ok-false.field-0-test c.in-Ok-false.ensures.ok).from (subst (GoesOn c.args.to.now c.args.self.now.spot c.seek.new.self) c.in-Ok-false.field-0-test c.in-Ok-false.ensures.ok).tomb;
@@ -94,6 +96,7 @@ returns-in-Ok-true-clause-did g c =
     record {
       calls = chain-none (ReaderCall kn be fi (OfSeek c.args.to.now)) true (r.known, r.below, r.filler, h, w);
       on = on-begun kn be fi r c.seek.new.self c.args.to.now h w (subst (GoesOn c.args.to.now c.args.self.now.spot c.seek.new.self) c.in-Ok-true.field-0-test c.in-Ok-true.ensures.ok);
+      gone = λ none reaches. at-begun kn be fi r c.seek.new.self c.args.to.now h w (subst (GoesOn c.args.to.now c.args.self.now.spot c.seek.new.self) c.in-Ok-true.field-0-test c.in-Ok-true.ensures.ok);
       quiet = λ q. ((chain-none (KnownStep kn.did) true (r.known, h), refl, refl, refl), tt);
       filled = filled-still kn fi r.known r.filler h ⊤ tt;
       stays = stays-begun kn be fi r c.seek.new.self c.args.to.now h w (subst (GoesOn c.args.to.now c.args.self.now.spot c.seek.new.self) c.in-Ok-true.field-0-test c.in-Ok-true.ensures.ok);
@@ -143,6 +146,7 @@ returns-in-Err-clause-did g c =
     record {
       calls = chain-none (ReaderCall kn be fi (OfSeek c.args.to.now)) false (r.known, r.below, r.filler, h, w);
       on = subst (Reaches (stand r.spot)) (sym c.in-Err.ensures.err.from) (reach-itself (stand r.spot));
+      gone = tt;
       quiet = λ q. ((chain-none (KnownStep kn.did) false (r.known, h), refl, refl, refl), tt);
       filled = filled-still kn fi r.known r.filler h ⊤ tt;
       stays = stays-alike kn be fi r c.seek.new.self h w c.in-Err.ensures.err.from c.in-Err.ensures.err.tomb;

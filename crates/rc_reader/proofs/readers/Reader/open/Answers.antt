@@ -1,5 +1,4 @@
 -- The reader has the stream and the work that was begun, or the stream is given back.
-use Rattle.std.proofs.Common.{refl, true, false}
 use Rattle.rc_reader.proofs.Chains.{opened-answered, opened-quiet, opened-refused}
 use Rattle.rc_reader.proofs.Homes.{blames-error, blames-value}
 use Rattle.rc_reader.proofs.readers.Reader.open.Goals as goal

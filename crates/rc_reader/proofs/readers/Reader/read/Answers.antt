@@ -1,10 +1,11 @@
 -- Lines are made, and then given; where either is refused what is made is kept.
-use Rattle.std.proofs.Common.{refl, sym, ap, ◌∙◌, subst, true, false, inl}
+use Rattle.std.specs.Prelude.{take}
+use Rattle.std.proofs.Common.{refl, ap, ◌∙◌, true, false, inl}
 use Rattle.rc_stream.specs.Did.{Call.OfNext}
 use Rattle.rc_stream.specs.laws.Ordered.{passes-itself}
 use Rattle.rc_reader.specs.Steps.{OneStep}
 use Rattle.rc_reader.proofs.Chains.{chain-stopped, read-answered, read-quiet, read-refused}
-use Rattle.rc_reader.proofs.Given.{gives, leaves, tells}
+use Rattle.rc_reader.proofs.Given.{gives, leaves, nexts, tells}
 use Rattle.rc_reader.proofs.Holding.{left-put}
 use Rattle.rc_reader.proofs.Putting.{same-lines}
 use Rattle.rc_reader.proofs.Homes.{blames-error, blames-memory, blames-value}
@@ -18,6 +19,9 @@ returns-in-Ok-give-clause-more g c = λ lines h. c.in-Ok-give.ensures.more ∙ t
 
 pub returns-in-Ok-give-clause-left : goal.returns-in-Ok-give-clause-left
 returns-in-Ok-give-clause-left g c = λ lines h. leaves c.args.count (g.S.Frags.seen c.args.self.now.stream c.args.home.now c.args.store.now) (g.S.Frags.seen c.make.new.stream c.make.new.home c.make.new.store) c.args.self.now.work c.make.new.work c.make.ensures.left c.in-Ok.ensures.enough (record c.make.new.work { lines = c.give.new.lines }) refl refl refl c.in-Ok-give.ensures.left lines h
+
+pub returns-in-Ok-give-clause-made : goal.returns-in-Ok-give-clause-made
+returns-in-Ok-give-clause-made g c = λ lines h. ap (take 1) c.in-Ok-give.ensures.left ∙ nexts c.args.count (g.S.Frags.seen c.args.self.now.stream c.args.home.now c.args.store.now) (g.S.Frags.seen c.make.new.stream c.make.new.home c.make.new.store) c.args.self.now.work c.make.new.work c.make.ensures.left c.in-Ok.ensures.enough lines h
 
 pub returns-in-Ok-give-clause-spends : goal.returns-in-Ok-give-clause-spends
 returns-in-Ok-give-clause-spends g c = λ left sp. read-answered g.S.Frags.did g.W.Store.asks left sp c.args.self.now.work.to (c.args.self.now.stream, c.args.home.now, c.args.store.now) (c.make.new.stream, c.make.new.home, c.make.new.store) (c.in-Ok.ensures.did c.args.self.now.work.to (inl (passes-itself c.args.self.now.work.to)))

@@ -1,7 +1,8 @@
 -- What is held and what is due do not change the head.
 use Rattle.std.proofs.Common.{◌∙◌}
 use Rattle.rc_stream.specs.Both.{HoldBoth, MaySeekBoth, MightBoth, SoughtBoth}
-use Rattle.rc_stream.proofs.Due.{after-none, after-on, ahead-on, due-on, head-after}
+use Rattle.rc_stream.specs.Did.{has_answer}
+use Rattle.rc_stream.proofs.Due.{after-none, after-on, ahead-on, due-of-head, due-on, head-after}
 use Rattle.rc_stream.proofs.Showing.{shown-answer}
 use Rattle.rc_stream.proofs.merges.MergeFrags.head.Goals as goal
 
@@ -33,7 +34,7 @@ pub returns-clause-ready : goal.returns-clause-ready
 returns-clause-ready g c = (c.head_of_both.ensures.ready, c.requires.1, due-on (MaySeekBoth g.A.Frags.ahead g.B.Frags.ahead c.args.self.now) (MaySeekBoth g.A.Frags.ahead g.B.Frags.ahead c.head_of_both.new.merge) c.args.self.now.due c.head_of_both.new.merge.due c.head_of_both.ensures.due c.head_of_both.ensures.ahead c.requires.2)
 
 pub returns-clause-did : goal.returns-clause-did
-returns-clause-did g c = record { calls = c.head_of_both.ensures.did }
+returns-clause-did g c = record { calls = c.head_of_both.ensures.did; leaves = due-of-head c.args.self.now.due c.head_of_both.new.merge.due (has_answer c.head_of_both.result) c.head_of_both.ensures.due }
 
 pub returns-clause-moves : goal.returns-clause-moves
 returns-clause-moves g c = c.head_of_both.ensures.moves

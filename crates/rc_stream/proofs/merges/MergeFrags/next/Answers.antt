@@ -5,7 +5,7 @@ use Rattle.rc_stream.specs.Leaving.{left_by}
 use Rattle.rc_stream.specs.Did.{OneCall, has_answer, merge_state}
 use Rattle.rc_stream.proofs.Blaming.{blames-after, blames-err}
 use Rattle.rc_stream.proofs.Chains.{also-due, chain-after, chain-on}
-use Rattle.rc_stream.proofs.Due.{after-none, ahead-none, none-after, none-ahead, not-due}
+use Rattle.rc_stream.proofs.Due.{after-none, ahead-none, due-of-next, none-after, none-ahead, not-due}
 use Rattle.rc_stream.proofs.Ending.{covers-on}
 use Rattle.rc_stream.proofs.Going.{moved-moved}
 use Rattle.rc_stream.proofs.merges.MergeFrags.next.Goals as goal
@@ -45,7 +45,7 @@ returns-in-Ok-clause-did g c = λ y covers.
     let ok = has_answer c.next_of_both.result in
     let due = c.args.self.now.due in
     let on = covers-on (SoughtBoth g.A.Frags.seen g.B.Frags.seen c.args.self.now c.args.home.now c.args.store.now) (HoldBoth g.A.Frags.seen g.B.Frags.seen c.settle.new.merge c.settle.new.home c.settle.new.store) c.args.upto.now y (λ s b. none-after (HoldBoth g.A.Frags.seen g.B.Frags.seen c.settle.new.merge c.settle.new.home c.settle.new.store) c.settle.new.merge.due s c.in-Ok.ensures.ok (c.settle.ensures.seen s b)) covers in
-    record { calls = chain-after (OneCall g.A.Frags.did g.B.Frags.did due y) ok (merge_state c.args.self.now c.args.home.now c.args.store.now) (merge_state c.settle.new.merge c.settle.new.home c.settle.new.store) (merge_state c.next_of_both.new.merge c.next_of_both.new.home c.next_of_both.new.store) (c.in-Ok.ensures.did y) (chain-on (OneCall g.A.Frags.did g.B.Frags.did None y) (OneCall g.A.Frags.did g.B.Frags.did due y) (also-due due y g.A.Frags.did g.B.Frags.did) ok (merge_state c.settle.new.merge c.settle.new.home c.settle.new.store) (merge_state c.next_of_both.new.merge c.next_of_both.new.home c.next_of_both.new.store) (c.next_of_both.ensures.did y on)) }
+    record { calls = chain-after (OneCall g.A.Frags.did g.B.Frags.did due y) ok (merge_state c.args.self.now c.args.home.now c.args.store.now) (merge_state c.settle.new.merge c.settle.new.home c.settle.new.store) (merge_state c.next_of_both.new.merge c.next_of_both.new.home c.next_of_both.new.store) (c.in-Ok.ensures.did y) (chain-on (OneCall g.A.Frags.did g.B.Frags.did None y) (OneCall g.A.Frags.did g.B.Frags.did due y) (also-due due y g.A.Frags.did g.B.Frags.did) ok (merge_state c.settle.new.merge c.settle.new.home c.settle.new.store) (merge_state c.next_of_both.new.merge c.next_of_both.new.home c.next_of_both.new.store) (c.next_of_both.ensures.did y on)); leaves = due-of-next due c.next_of_both.new.merge.due y ok (c.next_of_both.ensures.due ∙ c.in-Ok.ensures.ok) }
 
 pub returns-in-Ok-clause-damage : goal.returns-in-Ok-clause-damage
 returns-in-Ok-clause-damage g c = blames-after (SpotsOfBoth g.A.Frags.damage g.B.Frags.damage c.args.self.now) (SpotsOfBoth g.A.Frags.damage g.B.Frags.damage c.settle.new.merge) (SpotsOfBoth g.A.Frags.damage g.B.Frags.damage c.next_of_both.new.merge) c.settle.result c.next_of_both.result c.settle.ensures.damage c.next_of_both.ensures.damage
@@ -66,7 +66,7 @@ pub returns-in-Err-clause-moves : goal.returns-in-Err-clause-moves
 returns-in-Err-clause-moves g c = c.settle.ensures.moves
 
 pub returns-in-Err-clause-did : goal.returns-in-Err-clause-did
-returns-in-Err-clause-did g c = λ y covers. record { calls = c.in-Err.ensures.did y }
+returns-in-Err-clause-did g c = λ y covers. record { calls = c.in-Err.ensures.did y; leaves = tt }
 
 pub returns-in-Err-clause-damage : goal.returns-in-Err-clause-damage
 returns-in-Err-clause-damage g c = blames-err (SpotsOfBoth g.A.Frags.damage g.B.Frags.damage c.args.self.now) (SpotsOfBoth g.A.Frags.damage g.B.Frags.damage c.settle.new.merge) c.in-Err.error c.in-Err.ensures.damage

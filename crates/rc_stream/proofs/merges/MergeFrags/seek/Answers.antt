@@ -1,5 +1,5 @@
 -- The seek is due in place of an earlier one.
-use Rattle.std.proofs.Common.{refl, sym, subst, Some}
+use Rattle.std.proofs.Common.{refl, sym, ap, subst, Some}
 use Rattle.rc_position.specs.declared.positions.Pos.{Pos}
 use Rattle.rc_stream.specs.Both.{AfterDue, HoldBoth, MaySeekBoth, SpotsOfBoth}
 use Rattle.rc_stream.specs.Stream.{sought_stream}
@@ -19,10 +19,10 @@ returns-in-Ok-clause-ready g c = (
 )
 
 pub returns-in-Ok-clause-did : goal.returns-in-Ok-clause-did
-returns-in-Ok-clause-did g c = record { calls = refl }
+returns-in-Ok-clause-did g c = record { calls = refl; leaves = ap Some c.in-Ok.ensures }
 
 pub returns-in-Err-clause-did : goal.returns-in-Err-clause-did
-returns-in-Err-clause-did g c = record { calls = refl }
+returns-in-Err-clause-did g c = record { calls = refl; leaves = tt }
 
 pub returns-in-Ok-clause-damage : goal.returns-in-Ok-clause-damage
 returns-in-Ok-clause-damage g c = blames-none (SpotsOfBoth g.A.Frags.damage g.B.Frags.damage c.args.self.now) _ tt
