@@ -1,12 +1,15 @@
 -- What a read gives of the lines that are left, by those that are made.
-use Rattle.std.specs.Prelude.{◌≡◌, ◌⊎◌, ℕ, IsTrue, List, [], ◌++◌, length, take, drop, nat_lt}
-use Rattle.std.proofs.Common.{sym, ap, ◌∙◌, arith, inl, inr, length-append, length-drop}
+use Rattle.std.specs.Prelude.{◌≡◌, ◌⊎◌, ℕ, IsTrue, List, [], ◌++◌, length, take, drop, nat_lt, ◌-◌, ◌≤◌}
+use Rattle.std.proofs.Common.{sym, ap, ◌∙◌, subst, arith, inl, inr, length-append, length-drop}
 use Rattle.std.proofs.lemmas.Bool.{lt-ltb, ltb-true}
 use Rattle.std.proofs.lemmas.List.{append_cancel_left, append-nil, drop-append-le, take-append-le}
 use Rattle.std.specs.Option.{option_to_list}
+use Rattle.rc_position.specs.declared.positions.Pos.{Pos}
+use Rattle.rc_stream.specs.Places.{Reaches}
 use Rattle.rc_query.specs.declared.lines.OutLine.{OutLine}
 use Rattle.rc_query.specs.Compacting.{compacted_lines}
-use Rattle.rc_reader.specs.Left.{Remains, until}
+use Rattle.rc_reader.specs.Left.{Remains, lines_before, until}
+use Rattle.rc_reader.specs.Steps.{GoesNoFurther}
 use Rattle.rc_reader.specs.calls.Making.{AreEnough}
 use Rattle.rc_reader.specs.declared.work.Work.{Work}
 use Rattle.rc_reader.proofs.Holding.{Seen}
@@ -50,6 +53,13 @@ others_of P v lines h = compacted_lines v.compactor.0.pt v.compactor.1 (until v.
 made-is : (n : ℕ) (P : Seen) (w v : Work) → AreEnough n (Remains P w) v.lines.items → (lines : Lines) → Remains P w lines → IsMade n v.lines.items lines
 made-is n P w v (inl t) lines h = inl t
 made-is n P w v (inr all) lines h = inr (all lines h)
+
+pub goes-given : (P : Seen) (v u : Work) (count n : ℕ) (y : Pos) → u.taken ≡ v.taken → u.compactor ≡ v.compactor → u.to ≡ v.to → u.lines.items ≡ drop count v.lines.items → count ≤ n → GoesNoFurther P v n y → GoesNoFurther P u (n - count) y
+goes-given P v u count n y t c to l few (inl e) = inl (subst (λ x. Reaches x y) (sym to) e)
+goes-given P v u count n y t c to l few (inr h) =
+    let others : Lines = compacted_lines v.compactor.0.pt v.compactor.1 (until y (option_to_list v.taken ++ h.0.left)) in
+    let e : lines_before y u h.0.left ≡ drop count v.lines.items ++ others = (λ i. l i ++ compacted_lines (c i).0.pt (c i).1 (until y (option_to_list (t i) ++ h.0.left))) in
+    inr (h.0, h.1, omega (arith, few, h.2, ap length e, length-append (drop count v.lines.items) others, length-drop count v.lines.items, length-append v.lines.items others))
 
 module _ (n : ℕ) (P Q : Seen) (w v : Work) (on : (lines : Lines) → Remains P w lines → Remains Q v lines) (enough : AreEnough n (Remains P w) v.lines.items) where
   pub gives : (lines : Lines) → Remains P w lines → take n v.lines.items ≡ take n lines

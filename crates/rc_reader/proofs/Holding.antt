@@ -13,7 +13,7 @@ use Rattle.rc_stream.specs.Places.{Reaches}
 use Rattle.rc_stream.specs.Showing.{ShowsOne}
 use Rattle.rc_stream.specs.Stream.{Stream, first_upto, rest, sought_stream, took}
 use Rattle.rc_reader.specs.Left.{Remains, LeavesOne, lines_before, slice_lines, until}
-use Rattle.rc_reader.specs.Steps.{GoesNoFurther}
+use Rattle.rc_reader.specs.Steps.{AreFoundBefore, GoesNoFurther}
 use Rattle.rc_reader.specs.declared.work.Work.{Work}
 use Rattle.rc_reader.proofs.Putting.{first-is, near, none-left}
 
@@ -123,17 +123,23 @@ reaches-end P w y n few (inr h) idle =
 
 -- a work at its beginning, under this head
 pub record IsBegun (head : Head) (end : Pos) (w : Work) : Type 0 where
-  pub lines : (fs : List Frag) → lines_before end w fs ≡ compacted_all head (until end fs)
+  pub lines : (x : Pos) (fs : List Frag) → lines_before x w fs ≡ compacted_all head (until x fs)
   pub to : w.to ≡ end
 
 begun-lines : (head : Head) (slice : Slice) (w : Work) → IsBegun head slice.to w → (s : Stream) → head ≡ s.head → slice_lines slice s ≡ lines_before w.to w (sought_stream slice.from s).left
 begun-lines head slice w b s e =
     ap (λ (h : Head). compacted_all h (until slice.to (sought_stream slice.from s).left)) (sym e)
-    ∙ sym (b.lines (sought_stream slice.from s).left)
+    ∙ sym (b.lines slice.to (sought_stream slice.from s).left)
     ∙ ap (λ x. lines_before x w (sought_stream slice.from s).left) (sym b.to)
 
 pub left-begun : (P : Seen) (head : Head) (slice : Slice) (w : Work) → IsBegun head slice.to w → (s : Stream) → head ≡ s.head → P (sought_stream slice.from s) → Remains P w (slice_lines slice s)
 left-begun P head slice w b s e p = record { stream = sought_stream slice.from s; stands = p; are = begun-lines head slice w b s e }
+
+pub goes-begun : (P Q : Seen) (head : Head) (slice : Slice) (w : Work) → IsBegun head slice.to w → ((s : Stream) → P s → head ≡ s.head) → ((s : Stream) → P s → Q (sought_stream slice.from s)) → (n : ℕ) (y : Pos) → AreFoundBefore P slice n y → GoesNoFurther Q w n y
+goes-begun P Q head slice w b same on n y (inl e) = inl (subst (λ x. Reaches x y) (sym b.to) e)
+goes-begun P Q head slice w b same on n y (inr h) =
+    let left = (sought_stream slice.from h.0).left in
+    inr (sought_stream slice.from h.0, on h.0 h.1, subst (λ ls. n < length ls) (ap (λ (k : Head). compacted_all k (until y left)) (sym (same h.0 h.1)) ∙ sym (b.lines y left)) h.2)
 
 pub shown-begun : (might P Q : Seen) (head : Head) (slice : Slice) (w : Work) → IsBegun head slice.to w → ((s : Stream) → P s → Q (sought_stream slice.from s)) → ShowsOne might P head → LeavesOne might slice (Remains Q w)
 shown-begun might P Q head slice w b on one = record {

@@ -3,9 +3,11 @@
 --     OneStep        one call of a stream
 --     OpenCalls        the head, and then a seek
 --     GoesNoFurther  where a read ends
+--     AreFoundBefore    where the first lines of a slice end
 --     MovedOn        what any number of calls make of a home and a store
 use Rattle.std.specs.Prelude.{◌≡◌, ◌⊎◌, ◌<◌, ℕ, Bool, true, false, length, Result, Ok, Err}
 use Rattle.rc_position.specs.declared.positions.Pos.{Pos}
+use Rattle.rc_position.specs.declared.slices.Slice.{Slice}
 use Rattle.rc_stream.specs.declared.streams.StreamErr.{StreamErr}
 use Rattle.rc_stream.specs.Did.{Call, Deed, Call.OfHead, Call.OfSeek}
 use Rattle.rc_stream.specs.Moving.{Moves}
@@ -13,7 +15,7 @@ use Rattle.rc_stream.specs.Places.{Reaches}
 use Rattle.rc_stream.specs.Stream.{Stream}
 use Rattle.rc_reader.specs.declared.readers.Reader.{Reader}
 use Rattle.rc_reader.specs.declared.work.Work.{Work}
-use Rattle.rc_reader.specs.Left.{lines_before}
+use Rattle.rc_reader.specs.Left.{lines_before, slice_lines}
 
 -- a reader may be read on over a home and a store: its stream is ready there
 abbrev pub MayGive : {S H W : Type 0} → (S → H → W → Type 0) → Reader S → H → W → Type 0
@@ -32,6 +34,11 @@ OpenCalls {S} {H} {W} did x false s t = OneStep did OfHead false s t ⊎ ((u : S
 -- that are stood for
 abbrev pub GoesNoFurther : (Stream → Type 0) → Work → ℕ → Pos → Type 0
 GoesNoFurther seen work count y = Reaches work.to y ⊎ ((s : Stream) × seen s × (count < length (lines_before y work s.left)))
+
+-- the first lines of a slice, so many and one more, are found before y: y is not before the end of the slice, or more lines than these stand in the
+-- slice before y, of one of the streams that are stood for
+abbrev pub AreFoundBefore : (Stream → Type 0) → Slice → ℕ → Pos → Type 0
+AreFoundBefore seen slice count y = Reaches slice.to y ⊎ ((s : Stream) × seen s × (count < length (slice_lines (record slice { to = y }) s)))
 
 -- what any number of calls make of a home and a store
 abbrev pub MovedOn : {H W : Type 0} → (H → W → H → W → Type 0) → H → W → H → W → Type 0

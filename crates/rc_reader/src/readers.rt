@@ -1,6 +1,6 @@
 //! Readers of a slice of one partition.
 
-ghost use Rattle.std.specs.Prelude.{◌≡◌, ◌≤◌, ◌+◌, ℕ, Bool, List, None, false, true, length, take, drop, nat_lt, IfErr, IfOk, IsSome, IsTrue, MatchResult, OnErr, OnOk};
+ghost use Rattle.std.specs.Prelude.{◌≡◌, ◌≤◌, ◌+◌, ◌-◌, ℕ, Bool, List, None, false, true, length, take, drop, nat_lt, IfErr, IfOk, IsSome, IsTrue, MatchResult, OnErr, OnOk};
 ghost use Rattle.rc_outside.specs.Files.{HoldsSameFiles};
 ghost use Rattle.rc_position.specs.declared.positions.Pos.{Pos};
 ghost use Rattle.rc_query.specs.declared.lines.OutLine.{OutLine};
@@ -9,7 +9,7 @@ ghost use Rattle.rc_stream.specs.Did.{InTurn, IsQuiet, ReachesEnd, Spends, has_a
 ghost use Rattle.rc_stream.specs.Showing.{Blames};
 ghost use Rattle.rc_stream.specs.Stream.{Stream};
 ghost use Rattle.rc_reader.specs.Left.{AreLeft, Remains, LeavesOne, left_after, slice_lines};
-ghost use Rattle.rc_reader.specs.Steps.{GoesNoFurther, MayGive, MovedOn, OneStep, OpenCalls, stream_after, without_stream};
+ghost use Rattle.rc_reader.specs.Steps.{AreFoundBefore, GoesNoFurther, MayGive, MovedOn, OneStep, OpenCalls, stream_after, without_stream};
 ghost use Rattle.rc_reader.specs.calls.Making.{AreEnough};
 
 use crate::work::{Work, give};
@@ -45,6 +45,7 @@ impl<S> Reader<S> {
         ensures left { (s : Stream) → S.seen stream home.old store.old s → IfOk result (λ reader. AreLeft S.seen reader home.new store.new (slice_lines slice.now s)) }
         ensures shown { S.fresh stream → IfOk result (λ reader. LeavesOne (S.might stream) slice.now (AreLeft S.seen reader home.new store.new)) }
         ensures to { IfOk result (λ reader. reader.work.to ≡ slice.now.to) }
+        ensures goes { (n : ℕ) (y : Pos) → AreFoundBefore (S.seen stream home.old store.old) slice.now n y → IfOk result (λ reader. GoesNoFurther (S.seen reader.stream home.new store.new) reader.work n y) }
         ensures may { IfOk result (λ reader. MayGive S.ready reader home.new store.new) }
         ensures back { (s : Stream) → S.seen stream home.old store.old s → IfErr result (λ e. S.seen e.0 home.new store.new s) }
         ensures ready { IfErr result (λ e. S.ready e.0 home.new store.new) }
@@ -82,6 +83,7 @@ impl<S> Reader<S> {
         ensures left { (lines : List OutLine) → AreLeft S.seen self.old home.old store.old lines → AreLeft S.seen self.new home.new store.new (left_after result count lines) }
         ensures made { (lines : List OutLine) → AreLeft S.seen self.old home.old store.old lines → IfOk result (λ _. take 1 self.new.work.lines.items ≡ take 1 (drop count lines)) }
         ensures to { self.new.work.to ≡ self.old.work.to }
+        ensures goes { (n : ℕ) (y : Pos) → count ≤ n → GoesNoFurther (S.seen self.old.stream home.old store.old) self.old.work n y → OnOk result (GoesNoFurther (S.seen self.new.stream home.new store.new) self.new.work (n - count) y) }
         ensures may { MayGive S.ready self.new home.new store.new }
         ensures spends { (left : S → ℕ) → Spends S.did left W.asks → MatchResult result (λ _. W.asks store.new + left self.new.stream ≤ W.asks store.old + left self.old.stream) (λ _. W.asks store.new ≤ W.asks store.old + left self.old.stream) }
         ensures quiet { (settled : S → Bool) → IsQuiet S.did settled W.asks → IsTrue (settled self.old.stream) → (W.asks store.new ≡ W.asks store.old) × IsTrue (settled self.new.stream) }
@@ -131,6 +133,7 @@ fn begin<H, W: Store, S: Frags<H, W>>(
     ensures left { (s : Stream) → S.seen stream.old home.old store.old s → IfOk result (λ work. Remains (S.seen stream.new home.new store.new) work (slice_lines slice.now s)) }
     ensures shown { S.fresh stream.old → IfOk result (λ work. LeavesOne (S.might stream.old) slice.now (Remains (S.seen stream.new home.new store.new) work)) }
     ensures to { IfOk result (λ work. work.to ≡ slice.now.to) }
+    ensures goes { (n : ℕ) (y : Pos) → AreFoundBefore (S.seen stream.old home.old store.old) slice.now n y → IfOk result (λ work. GoesNoFurther (S.seen stream.new home.new store.new) work n y) }
     ensures back { (s : Stream) → S.seen stream.old home.old store.old s → OnErr result (S.seen stream.new home.new store.new s) }
     ensures ahead { (x : Pos) → S.ahead stream.old x → OnErr result (S.ahead stream.new x) }
     ensures ready { S.ready stream.new home.new store.new }
@@ -227,6 +230,7 @@ fn make<H, W: Store, S: Frags<H, W>>(
 ) -> Result<(), StreamErr>
     requires { S.ready stream.old home.old store.old }
     ensures left { (lines : List OutLine) → Remains (S.seen stream.old home.old store.old) work.old lines → Remains (S.seen stream.new home.new store.new) work.new lines }
+    ensures goes { (n : ℕ) (y : Pos) → count ≤ n → GoesNoFurther (S.seen stream.old home.old store.old) work.old n y → GoesNoFurther (S.seen stream.new home.new store.new) work.new n y }
     ensures enough { OnOk result (AreEnough count (Remains (S.seen stream.old home.old store.old) work.old) work.new.lines.items) }
     ensures to { work.new.to ≡ work.old.to }
     ensures ready { S.ready stream.new home.new store.new }

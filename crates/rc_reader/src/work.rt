@@ -24,7 +24,7 @@ pub(crate) struct Work {
 impl Work {
     // The beginning, in a slice that ends at `to`: the static line is made. The only error is want of memory.
     pub(crate) fn new(alloc: Global, head: &Head, to: &Pos) -> Result<Self, AllocError>
-        ensures lines { IfOk result (λ work. (fs : List Frag) → lines_before to.now work fs ≡ compacted_all head.now (until to.now fs)) }
+        ensures lines { IfOk result (λ work. (x : Pos) (fs : List Frag) → lines_before x work fs ≡ compacted_all head.now (until x fs)) }
         ensures to { IfOk result (λ work. work.to ≡ to.now) }
     {
         let compactor = Compactor::new(alloc, head)?;

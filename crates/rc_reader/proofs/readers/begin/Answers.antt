@@ -1,6 +1,6 @@
 -- The head, and then a seek; the work is begun between them.
 use Rattle.std.proofs.Common.{refl, inl, inr}
-use Rattle.rc_reader.proofs.Holding.{left-begun, shown-begun}
+use Rattle.rc_reader.proofs.Holding.{goes-begun, left-begun, shown-begun}
 use Rattle.rc_reader.proofs.Homes.{blames-error, blames-memory, blames-value, moved-moved, moved-one}
 use Rattle.rc_reader.proofs.readers.begin.Goals as goal
 
@@ -12,6 +12,11 @@ pub returns-in-Ok-seek-clause-shown : goal.returns-in-Ok-seek-clause-shown
 returns-in-Ok-seek-clause-shown g c = λ fresh.
     shown-begun (g.S.Frags.might c.args.stream.now) (g.S.Frags.seen c.head.new.self c.head.new.home c.head.new.store) (g.S.Frags.seen c.seek.new.self c.seek.new.home c.seek.new.store) c.in-Ok.head c.args.slice.now c.in-Ok-new.work
     (record { lines = c.in-Ok-new.ensures.lines; to = c.in-Ok-new.ensures.to }) c.in-Ok-seek.ensures.seen (c.in-Ok.ensures.shown fresh)
+
+pub returns-in-Ok-seek-clause-goes : goal.returns-in-Ok-seek-clause-goes
+returns-in-Ok-seek-clause-goes g c = λ n y found.
+    goes-begun (g.S.Frags.seen c.args.stream.now c.args.home.now c.args.store.now) (g.S.Frags.seen c.seek.new.self c.seek.new.home c.seek.new.store) c.in-Ok.head c.args.slice.now c.in-Ok-new.work
+    (record { lines = c.in-Ok-new.ensures.lines; to = c.in-Ok-new.ensures.to }) c.in-Ok.ensures.head (λ s k. c.in-Ok-seek.ensures.seen s (c.head.ensures.seen s k)) n y found
 
 pub returns-in-Ok-seek-clause-moves : goal.returns-in-Ok-seek-clause-moves
 returns-in-Ok-seek-clause-moves g c =

@@ -10,7 +10,7 @@ use Rattle.rc_reader.proofs.readers.make.Goals as goal
 pub loop-rounds-init : goal.loop-rounds-init
 loop-rounds-init g c = record {
   left = λ lines h. h;
-  goes = λ y h. h;
+  goes = λ n y few h. h;
   did = λ y _. many-none (OneStep g.S.Frags.did (OfNext y)) (c.args.stream.now, c.args.home.now, c.args.store.now);
   to = refl;
   ready = c.requires;
@@ -26,8 +26,8 @@ loop-rounds-preserved g c =
     let few = (ltb-false c.args.count (length c.loop-rounds.work.lines.items) (sym c.has_more_than.ensures ∙ c.if-has_more_than.false)) in
     record {
       left = λ lines h. c.step.ensures.left lines (c.loop-rounds.invariant.left lines h);
-      goes = λ y h. c.step.ensures.goes y c.args.count few (c.loop-rounds.invariant.goes y h);
-      did = λ y h. many-many (OneStep g.S.Frags.did (OfNext y)) (c.args.stream.now, c.args.home.now, c.args.store.now) (c.loop-rounds.stream, c.loop-rounds.home, c.loop-rounds.store) (c.step.new.stream, c.step.new.home, c.step.new.store) (c.loop-rounds.invariant.did y h) (c.in-Ok-true.ensures.did y c.args.count few (c.loop-rounds.invariant.goes y h));
+      goes = λ n y more h. c.step.ensures.goes y n (omega (arith, few, more)) (c.loop-rounds.invariant.goes n y more h);
+      did = λ y h. many-many (OneStep g.S.Frags.did (OfNext y)) (c.args.stream.now, c.args.home.now, c.args.store.now) (c.loop-rounds.stream, c.loop-rounds.home, c.loop-rounds.store) (c.step.new.stream, c.step.new.home, c.step.new.store) (c.loop-rounds.invariant.did y h) (c.in-Ok-true.ensures.did y c.args.count few (c.loop-rounds.invariant.goes c.args.count y (omega arith) h));
       to = c.step.ensures.to ∙ c.loop-rounds.invariant.to;
       ready = c.step.ensures.ready;
       moves = moved-moved g.S.Frags.moves c.args.home.now c.args.store.now c.loop-rounds.home c.loop-rounds.store c.step.new.home c.step.new.store c.loop-rounds.invariant.moves c.step.ensures.moves;
@@ -42,6 +42,9 @@ returns-then-has_more_than-clause-left g c = c.loop-rounds.invariant.left
 
 pub returns-then-has_more_than-clause-enough : goal.returns-then-has_more_than-clause-enough
 returns-then-has_more_than-clause-enough g c = inl (sym c.has_more_than.ensures ∙ c.if-has_more_than.true)
+
+pub returns-then-has_more_than-clause-goes : goal.returns-then-has_more_than-clause-goes
+returns-then-has_more_than-clause-goes g c = c.loop-rounds.invariant.goes
 
 pub returns-then-has_more_than-clause-did : goal.returns-then-has_more_than-clause-did
 returns-then-has_more_than-clause-did g c = c.loop-rounds.invariant.did
@@ -58,9 +61,12 @@ returns-in-Ok-false-clause-left g c = λ lines h. c.step.ensures.left lines (c.l
 pub returns-in-Ok-false-clause-enough : goal.returns-in-Ok-false-clause-enough
 returns-in-Ok-false-clause-enough g c = inr (λ lines h. c.in-Ok-false.ensures.end c.in-Ok-false.field-0-test lines (c.loop-rounds.invariant.left lines h))
 
+pub returns-in-Ok-false-clause-goes : goal.returns-in-Ok-false-clause-goes
+returns-in-Ok-false-clause-goes g c = λ n y more h. c.step.ensures.goes y n (omega (arith, (ltb-false c.args.count (length c.loop-rounds.work.lines.items) (sym c.has_more_than.ensures ∙ c.if-has_more_than.false)), more)) (c.loop-rounds.invariant.goes n y more h)
+
 pub returns-in-Ok-false-clause-did : goal.returns-in-Ok-false-clause-did
 returns-in-Ok-false-clause-did g c = λ y h.
-    chain-after (OneStep g.S.Frags.did (OfNext y)) true (c.args.stream.now, c.args.home.now, c.args.store.now) (c.loop-rounds.stream, c.loop-rounds.home, c.loop-rounds.store) (c.step.new.stream, c.step.new.home, c.step.new.store) (c.loop-rounds.invariant.did y h) (c.in-Ok-false.ensures.did y c.args.count (ltb-false c.args.count (length c.loop-rounds.work.lines.items) (sym c.has_more_than.ensures ∙ c.if-has_more_than.false)) (c.loop-rounds.invariant.goes y h))
+    chain-after (OneStep g.S.Frags.did (OfNext y)) true (c.args.stream.now, c.args.home.now, c.args.store.now) (c.loop-rounds.stream, c.loop-rounds.home, c.loop-rounds.store) (c.step.new.stream, c.step.new.home, c.step.new.store) (c.loop-rounds.invariant.did y h) (c.in-Ok-false.ensures.did y c.args.count (ltb-false c.args.count (length c.loop-rounds.work.lines.items) (sym c.has_more_than.ensures ∙ c.if-has_more_than.false)) (c.loop-rounds.invariant.goes c.args.count y (omega arith) h))
 
 pub returns-in-Ok-false-clause-moves : goal.returns-in-Ok-false-clause-moves
 returns-in-Ok-false-clause-moves g c = moved-moved g.S.Frags.moves c.args.home.now c.args.store.now c.loop-rounds.home c.loop-rounds.store c.step.new.home c.step.new.store c.loop-rounds.invariant.moves c.step.ensures.moves
@@ -71,9 +77,12 @@ returns-in-Ok-false-clause-damage g c = blames-value (g.S.Frags.damage c.args.st
 pub returns-in-Err-clause-left : goal.returns-in-Err-clause-left
 returns-in-Err-clause-left g c = λ lines h. c.step.ensures.left lines (c.loop-rounds.invariant.left lines h)
 
+pub returns-in-Err-clause-goes : goal.returns-in-Err-clause-goes
+returns-in-Err-clause-goes g c = λ n y more h. c.step.ensures.goes y n (omega (arith, (ltb-false c.args.count (length c.loop-rounds.work.lines.items) (sym c.has_more_than.ensures ∙ c.if-has_more_than.false)), more)) (c.loop-rounds.invariant.goes n y more h)
+
 pub returns-in-Err-clause-did : goal.returns-in-Err-clause-did
 returns-in-Err-clause-did g c = λ y h.
-    chain-after (OneStep g.S.Frags.did (OfNext y)) false (c.args.stream.now, c.args.home.now, c.args.store.now) (c.loop-rounds.stream, c.loop-rounds.home, c.loop-rounds.store) (c.step.new.stream, c.step.new.home, c.step.new.store) (c.loop-rounds.invariant.did y h) (c.in-Err.ensures.did y c.args.count (ltb-false c.args.count (length c.loop-rounds.work.lines.items) (sym c.has_more_than.ensures ∙ c.if-has_more_than.false)) (c.loop-rounds.invariant.goes y h))
+    chain-after (OneStep g.S.Frags.did (OfNext y)) false (c.args.stream.now, c.args.home.now, c.args.store.now) (c.loop-rounds.stream, c.loop-rounds.home, c.loop-rounds.store) (c.step.new.stream, c.step.new.home, c.step.new.store) (c.loop-rounds.invariant.did y h) (c.in-Err.ensures.did y c.args.count (ltb-false c.args.count (length c.loop-rounds.work.lines.items) (sym c.has_more_than.ensures ∙ c.if-has_more_than.false)) (c.loop-rounds.invariant.goes c.args.count y (omega arith) h))
 
 pub returns-in-Err-clause-moves : goal.returns-in-Err-clause-moves
 returns-in-Err-clause-moves g c = moved-moved g.S.Frags.moves c.args.home.now c.args.store.now c.loop-rounds.home c.loop-rounds.store c.step.new.home c.step.new.store c.loop-rounds.invariant.moves c.step.ensures.moves
@@ -83,6 +92,9 @@ returns-in-Err-clause-damage g c = blames-error (g.S.Frags.damage c.args.stream.
 
 pub returns-clause-left : goal.returns-clause-left
 returns-clause-left g c = c.loop-rounds.invariant.left
+
+pub returns-clause-goes : goal.returns-clause-goes
+returns-clause-goes g c = c.loop-rounds.invariant.goes
 
 pub returns-clause-did : goal.returns-clause-did
 returns-clause-did g c = λ y h. chain-stopped (OneStep g.S.Frags.did (OfNext y)) (c.args.stream.now, c.args.home.now, c.args.store.now) (c.loop-rounds.stream, c.loop-rounds.home, c.loop-rounds.store) (c.loop-rounds.invariant.did y h)

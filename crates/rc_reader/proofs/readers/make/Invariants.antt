@@ -10,7 +10,7 @@ use Rattle.rc_reader.proofs.readers.make.Given as goal
 abbrev pub invariant-loop-rounds : goal.invariant-loop-rounds
 invariant-loop-rounds g l = record {
   left : (lines : List OutLine) → Remains (g.S.Frags.seen l.initial.stream l.initial.home l.initial.store) l.initial.work lines → Remains (g.S.Frags.seen l.stream l.home l.store) l.work lines;
-  goes : (y : Pos) → GoesNoFurther (g.S.Frags.seen l.initial.stream l.initial.home l.initial.store) l.initial.work l.count y → GoesNoFurther (g.S.Frags.seen l.stream l.home l.store) l.work l.count y;
+  goes : (n : ℕ) (y : Pos) → l.count ≤ n → GoesNoFurther (g.S.Frags.seen l.initial.stream l.initial.home l.initial.store) l.initial.work n y → GoesNoFurther (g.S.Frags.seen l.stream l.home l.store) l.work n y;
   did : (y : Pos) → GoesNoFurther (g.S.Frags.seen l.initial.stream l.initial.home l.initial.store) l.initial.work l.count y → Many (OneStep g.S.Frags.did (OfNext y) true) (l.initial.stream, l.initial.home, l.initial.store) (l.stream, l.home, l.store);
   to : l.work.to ≡ l.initial.work.to;
   ready : g.S.Frags.ready l.stream l.home l.store;

@@ -5,7 +5,7 @@ use Rattle.rc_stream.specs.Did.{Call.OfNext}
 use Rattle.rc_stream.specs.laws.Ordered.{passes-itself}
 use Rattle.rc_reader.specs.Steps.{OneStep}
 use Rattle.rc_reader.proofs.Chains.{chain-stopped, read-answered, read-quiet, read-refused}
-use Rattle.rc_reader.proofs.Given.{gives, leaves, nexts, tells}
+use Rattle.rc_reader.proofs.Given.{gives, goes-given, leaves, nexts, tells}
 use Rattle.rc_reader.proofs.Holding.{left-put}
 use Rattle.rc_reader.proofs.Putting.{same-lines}
 use Rattle.rc_reader.proofs.Homes.{blames-error, blames-memory, blames-value}
@@ -22,6 +22,9 @@ returns-in-Ok-give-clause-left g c = λ lines h. leaves c.args.count (g.S.Frags.
 
 pub returns-in-Ok-give-clause-made : goal.returns-in-Ok-give-clause-made
 returns-in-Ok-give-clause-made g c = λ lines h. ap (take 1) c.in-Ok-give.ensures.left ∙ nexts c.args.count (g.S.Frags.seen c.args.self.now.stream c.args.home.now c.args.store.now) (g.S.Frags.seen c.make.new.stream c.make.new.home c.make.new.store) c.args.self.now.work c.make.new.work c.make.ensures.left c.in-Ok.ensures.enough lines h
+
+pub returns-in-Ok-give-clause-goes : goal.returns-in-Ok-give-clause-goes
+returns-in-Ok-give-clause-goes g c = λ n y few gn. goes-given (g.S.Frags.seen c.make.new.stream c.make.new.home c.make.new.store) c.make.new.work (record c.make.new.work { lines = c.give.new.lines }) c.args.count n y refl refl refl c.in-Ok-give.ensures.left few (c.make.ensures.goes n y few gn)
 
 pub returns-in-Ok-give-clause-spends : goal.returns-in-Ok-give-clause-spends
 returns-in-Ok-give-clause-spends g c = λ left sp. read-answered g.S.Frags.did g.W.Store.asks left sp c.args.self.now.work.to (c.args.self.now.stream, c.args.home.now, c.args.store.now) (c.make.new.stream, c.make.new.home, c.make.new.store) (c.in-Ok.ensures.did c.args.self.now.work.to (inl (passes-itself c.args.self.now.work.to)))
