@@ -67,11 +67,16 @@ pub record ReaderFilled {K P H : Type 0} (kn : OfKnown K H) (fi : OfFiller P H) 
   pub static_row : Unlost (fi.may p h) (fi.lost h) (fi.lost g) (IsStaticRowKnown (kn.heads k h) → IsStaticRowKnown (kn.heads l g))
   pub now : Unlost (fi.may p h) (fi.lost h) (fi.lost g) this
 
--- a call for the head leaves the place, and what is due there; where nothing is due, an answered seek to a position that is not before the place goes there
+-- an answered seek to x leaves the place where it was, or goes to x, which is not before it; and it goes there where nothing is due
+pub record IsSoughtTo (x : Pos) (s t : Spot) : Type 0 where
+  pub stands : (stand t ≡ stand s) ⊎ (Reaches (stand s) x × (stand t ≡ x))
+  pub idle : front s ≡ [] → Reaches (stand s) x → stand t ≡ x
+
+-- a call for the head leaves the place, and what is due there; a seek leaves the place where it was, or goes where it is sent
 abbrev pub IsGoneTo : Call → Bool → Spot → Spot → Type 0
 IsGoneTo OfHead ok s t = t ≡ s
-IsGoneTo (OfSeek x) true s t = front s ≡ [] → Reaches (stand s) x → stand t ≡ x
-IsGoneTo (OfSeek x) false s t = ⊤
+IsGoneTo (OfSeek x) true s t = IsSoughtTo x s t
+IsGoneTo (OfSeek x) false s t = stand t ≡ stand s
 IsGoneTo (OfNext y) ok s t = ⊤
 
 -- a call of a reader is a chain of calls of its parts, a refused one last, and goes on, a seek of one at which nothing is due to where it was sent; where what it passes is known, of the snapshot alone, and it still is known; where the filler may fill and nothing was lost, what it passed is known afterwards; of the writes of which it was a reader it is one still
