@@ -28,6 +28,7 @@ module _ {K F P H W : Type 0} (kn : OfKnown K H) (be : OfBelow F H W) (fi : OfFi
     calls = chain-after (ReaderCall kn be fi (OfNext y)) ok (reader_state r h w) (reader_state n g v) (reader_state m f u) a.calls b.calls;
     on = reach-through (stand r.spot) (stand n.spot) (stand m.spot) a.on b.on;
     gone = tt;
+    to = b.to ∙ a.to;
     quiet = λ k.
         let x = a.quiet k in
         let z = b.quiet x.1 in
@@ -41,6 +42,7 @@ module _ {K F P H W : Type 0} (kn : OfKnown K H) (be : OfBelow F H W) (fi : OfFi
     calls = chain-stop (ReaderCall kn be fi (OfNext y)) (reader_state r h w) (reader_state n g v) a.calls;
     on = a.on;
     gone = tt;
+    to = a.to;
     quiet = λ k. (let x = a.quiet k in ((chain-stop (KnownStep kn.did) (r.known, h) (n.known, g) x.0.0, x.0.1, x.0.2, x.0.3), x.1));
     filled = a.filled;
     stays = a.stays;
@@ -51,6 +53,7 @@ module _ {K F P H W : Type 0} (kn : OfKnown K H) (be : OfBelow F H W) (fi : OfFi
     calls = chain-none (ReaderCall kn be fi (OfNext y)) true (reader_state r h w);
     on = reach-itself (stand r.spot);
     gone = tt;
+    to = refl;
     quiet = λ k. ((chain-none (KnownStep kn.did) true (r.known, h), refl, refl, refl), k);
     filled = filled-still kn fi r.known r.filler h (IsKnownOver (kn.knows r.known h) (stand r.spot) (stand r.spot)) (over-nothing (kn.knows r.known h) (stand r.spot) (stand r.spot) refl);
     stays = λ writes d. d;

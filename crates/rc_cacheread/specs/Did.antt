@@ -79,11 +79,12 @@ IsGoneTo (OfSeek x) true s t = IsSoughtTo x s t
 IsGoneTo (OfSeek x) false s t = stand t ≡ stand s
 IsGoneTo (OfNext y) ok s t = ⊤
 
--- a call of a reader is a chain of calls of its parts, a refused one last, and goes on, a seek of one at which nothing is due to where it was sent; where what it passes is known, of the snapshot alone, and it still is known; where the filler may fill and nothing was lost, what it passed is known afterwards; of the writes of which it was a reader it is one still
+-- a call of a reader is a chain of calls of its parts, a refused one last, and goes on, to the same end; where what it passes is known, of the snapshot alone, and it still is known; where the filler may fill and nothing was lost, what it passed is known afterwards; of the writes of which it was a reader it is one still
 pub record ReaderDid {K F P H W : Type 0} (kn : OfKnown K H) (be : OfBelow F H W) (fi : OfFiller P H) (r : CacheReader K F P) (h : H) (w : W) (c : Call) (ok : Bool) (n : CacheReader K F P) (g : H) (v : W) : Type 0 where
   pub calls : InTurn (ReaderCall kn be fi c) ok (reader_state r h w) (reader_state n g v)
   pub on : Reaches (stand r.spot) (stand n.spot)
   pub gone : IsGoneTo c ok r.spot n.spot
+  pub to : n.to ≡ r.to
   pub quiet : IsKnownFor c (kn.knows r.known h) (kn.heads r.known h) (stand r.spot) r.to → CallsSnapshotAlone kn ok (reader_state r h w) (reader_state n g v) × IsKnownFor c (kn.knows n.known g) (kn.heads n.known g) (stand n.spot) n.to
   pub filled : ReaderFilled kn fi r.known r.filler h n.known n.filler g (IsFilledFor c ok (kn.knows n.known g) (kn.heads n.known g) (stand r.spot) (stand n.spot))
   pub stays : StaysReader kn be fi r h w n g v

@@ -47,6 +47,7 @@ returns-in-Ok-false-clause-did g c =
       calls = chain-none (ReaderCall kn be fi (OfSeek c.args.to.now)) true (r.known, r.below, r.filler, h, w);
       on = subst (Reaches (stand r.spot)) (sym (subst (GoesOn c.args.to.now c.args.self.now.spot c.seek.new.self) c.in-Ok-false.field-0-test c.in-Ok-false.ensures.ok).from) (reach-itself (stand r.spot));
       gone = record { stands = inl (subst (GoesOn c.args.to.now c.args.self.now.spot c.seek.new.self) c.in-Ok-false.field-0-test c.in-Ok-false.ensures.ok).from; idle = λ none reaches. absurd (never-before c.args.to.now (stand r.spot) reaches ((subst (GoesOn c.args.to.now c.args.self.now.spot c.seek.new.self) c.in-Ok-false.field-0-test c.in-Ok-false.ensures.ok).before (ap (onward c.args.to.now) none))) };
+      to = refl;
       quiet = λ q. ((chain-none (KnownStep kn.did) true (r.known, h), refl, refl, refl), tt);
       filled = filled-still kn fi r.known r.filler h ⊤ tt;
       stays = stays-alike kn be fi r c.seek.new.self h w (subst (GoesOn c.args.to.now c.args.self.now.spot c.seek.new.self) c.in-Ok-false.field-0-test c.in-Ok-false.ensures.ok).from (subst (GoesOn c.args.to.now c.args.self.now.spot c.seek.new.self) c.in-Ok-false.field-0-test c.in-Ok-false.ensures.ok).tomb;
@@ -97,6 +98,7 @@ returns-in-Ok-true-clause-did g c =
       calls = chain-none (ReaderCall kn be fi (OfSeek c.args.to.now)) true (r.known, r.below, r.filler, h, w);
       on = on-begun kn be fi r c.seek.new.self c.args.to.now h w (subst (GoesOn c.args.to.now c.args.self.now.spot c.seek.new.self) c.in-Ok-true.field-0-test c.in-Ok-true.ensures.ok);
       gone = record { stands = inr ((subst (GoesOn c.args.to.now c.args.self.now.spot c.seek.new.self) c.in-Ok-true.field-0-test c.in-Ok-true.ensures.ok).on, at-begun kn be fi r c.seek.new.self c.args.to.now h w (subst (GoesOn c.args.to.now c.args.self.now.spot c.seek.new.self) c.in-Ok-true.field-0-test c.in-Ok-true.ensures.ok)); idle = λ none reaches. at-begun kn be fi r c.seek.new.self c.args.to.now h w (subst (GoesOn c.args.to.now c.args.self.now.spot c.seek.new.self) c.in-Ok-true.field-0-test c.in-Ok-true.ensures.ok) };
+      to = refl;
       quiet = λ q. ((chain-none (KnownStep kn.did) true (r.known, h), refl, refl, refl), tt);
       filled = filled-still kn fi r.known r.filler h ⊤ tt;
       stays = stays-begun kn be fi r c.seek.new.self c.args.to.now h w (subst (GoesOn c.args.to.now c.args.self.now.spot c.seek.new.self) c.in-Ok-true.field-0-test c.in-Ok-true.ensures.ok);
@@ -147,6 +149,7 @@ returns-in-Err-clause-did g c =
       calls = chain-none (ReaderCall kn be fi (OfSeek c.args.to.now)) false (r.known, r.below, r.filler, h, w);
       on = subst (Reaches (stand r.spot)) (sym c.in-Err.ensures.err.from) (reach-itself (stand r.spot));
       gone = c.in-Err.ensures.err.from;
+      to = refl;
       quiet = λ q. ((chain-none (KnownStep kn.did) false (r.known, h), refl, refl, refl), tt);
       filled = filled-still kn fi r.known r.filler h ⊤ tt;
       stays = stays-alike kn be fi r c.seek.new.self h w c.in-Err.ensures.err.from c.in-Err.ensures.err.tomb;
