@@ -27,7 +27,6 @@ use Rattle.rc_paging.specs.declared.optional.Optional.{Optional}
 use Rattle.rc_paging.specs.Memtables.{DidAsOne}
 use Rattle.rc_paging.specs.Optional.{DidIfAny, WithBoth}
 use Rattle.rc_paging.specs.calls.Layers.{IsCacheLayerOf, IsMemtableLayerOf, OfLayers, cached_in}
-use Rattle.rc_paging.specs.Pages.{IsKnownWhole}
 use Rattle.rc_paging.specs.calls.Keeping.{KeptCache, KeptLayers, Three}
 use Rattle.rc_cached.specs.calls.Parts.{of_its_filler, of_snapshot, of_underlying}
 use Rattle.rc_paging.specs.calls.Standing.{OfMemtables}
@@ -90,7 +89,7 @@ pair_theirs c ok s t d = (let k = keeps_one s.1.stream t.1.stream s.2 t.2 s.3 t.
   store = k.2;
 })
 
-memtables_keep : (m : OfMemtables) (h : Memory) (w : Readings) (c : Call) (ok : Bool) (n : OfMemtables) (g : Memory) (v : Readings) → memtables_did m h w c ok n g v → KeptPair (merge_state m h w) (merge_state n g v)
+pub memtables_keep : (m : OfMemtables) (h : Memory) (w : Readings) (c : Call) (ok : Bool) (n : OfMemtables) (g : Memory) (v : Readings) → memtables_did m h w c ok n g v → KeptPair (merge_state m h w) (merge_state n g v)
 memtables_keep m h w c ok n g v d = merges (DidIfAny memtable_did) (DidIfAny memtable_did) KeptPair pair_none pair_more pair_ours pair_theirs m h w c ok n g v d
 
 -- ---- the row cache
@@ -108,19 +107,13 @@ pub record CallLaws (S : ℕ) : Type 0 where
       (n ≡ m) × (v ≡ w) × (t.below ≡ r.below) × IsKnownFor c (Knows n t.known.snap) (IsHeadSeen n t.known.snap) (stand t.spot) t.to
 
 -- what is before some end is before the end of all
-before_end : (x y : Pos) → IsBefore x y → IsBefore x end_position
+pub before_end : (x y : Pos) → IsBefore x y → IsBefore x end_position
 before_end x y b =
     elim (pos_cmp y end_position) as (λ r. pos_cmp y end_position ≡ r → IsBefore x end_position) [
       | Less ↦ λ e. pos_cmp_total.trans x y end_position b e
       | Equal ↦ λ e. subst (IsBefore x) (pos_cmp_same y end_position e) b
       | Greater ↦ λ e. (let none : true ≡ false = sym (ap is_gt e) ∙ last_pos-greatest y in absurd (cc))
     ] refl
-
--- where all is known, what a call passes is
-known_for : (c : Call) (a : OfCache) (m : Memory) → IsAllKnown (Knows m a.known.snap) (IsHeadSeen m a.known.snap) first_position end_position → IsKnownFor c (Knows m a.known.snap) (IsHeadSeen m a.known.snap) (stand a.spot) a.to
-known_for OfHead a m k = k.head
-known_for (OfSeek x) a m k = tt
-known_for (OfNext y) a m k = λ z from upto before. inl (k.each z (first_reaches z) (before_end z a.to before))
 
 -- where nothing was read, and nothing was handed in since, nothing is read
 none_first : (a b : Option Stream) → option_or a b ≡ None → a ≡ None
@@ -132,21 +125,15 @@ unread_still a b w v none below list = (let first = ap (λ (u : Underlying). u.l
 
 module _ (S : ℕ) (laws : CallLaws S) where
   pub cache_none : (r : Option OfCache) (m : Memory) (w : Readings) → KeptCache S r m w r m w
-  cache_none r m w = record { chains = leaves_same m; of = λ snap is. is; reader = λ below d. d; missed = λ d. (d, refl); unread = λ d. (d, refl); known = λ snap is d. (refl, refl) }
+  cache_none r m w = record { chains = leaves_same m; of = λ snap is. is; reader = λ below d. d; missed = λ d. (d, refl); unread = λ d. (d, refl) }
 
   cache_same : (r t : Option OfCache) (m n : Memory) (w v : Readings) → t ≡ r → n ≡ m → v ≡ w → KeptCache S r m w t n v
   cache_same r t m n w v e home store = subst (λ x. KeptCache S r m w x n v) (sym e) (subst (λ x. KeptCache S r m w r x v) (sym home) (subst (λ x. KeptCache S r m w r m x) (sym store) (cache_none r m w)))
 
-  of_some : (a b : OfCache) → ((s : Snap) → IsOfCached s a → IsOfCached s b) → (snap : Option Snap) → IsCacheLayerOf snap (Some a) → IsCacheLayerOf snap (Some b)
+  pub of_some : (a b : OfCache) → ((s : Snap) → IsOfCached s a → IsOfCached s b) → (snap : Option Snap) → IsCacheLayerOf snap (Some a) → IsCacheLayerOf snap (Some b)
   of_some a b d None is = absurd is
   of_some a b d (Some s) is = d s is
 
-  known_some : (a : OfCache) (m : Memory) (w : Readings) (c : Call) (ok : Bool) (b : OfCache) (n : Memory) (v : Readings) → cached_did S a m w c ok b n v → (snap : Option Snap) → IsCacheLayerOf snap (Some a) → IsKnownWhole m snap → (n ≡ m) × (v ≡ w)
-  known_some a m w c ok b n v d None is all = absurd is
-  known_some a m w c ok b n v d (Some s) is all =
-      let k = subst (λ z. IsAllKnown (Knows m z) (IsHeadSeen m z) first_position end_position) (sym is.snap) all in
-      let e = laws.known a m w c ok b n v d (known_for c a m k) in
-      (e.0, e.1)
 
   pub keeps_cache : (r t : Option OfCache) (m : Memory) (w : Readings) (c : Call) (ok : Bool) (n : Memory) (v : Readings) → WithBoth (λ a b. cached_did S a m w c ok b n v) ((n ≡ m) × (v ≡ w)) r t → KeptCache S r m w t n v
   keeps_cache None None m w c ok n v d = cache_same None None m n w v refl d.0 d.1
@@ -158,7 +145,6 @@ module _ (S : ℕ) (laws : CallLaws S) where
     reader = λ below reads. d.stays below reads;
     missed = λ read. (let e = laws.handed a m w c ok b n v d read in (e.1, e.0));
     unread = λ none. (let e = laws.unread a m w c ok b n v d none in (unread_still a b w v none e.1 e.2, e.0));
-    known = known_some a m w c ok b n v d;
   }
 
   pub cache_more : (r : Option OfCache) (m : Memory) (w : Readings) (t : Option OfCache) (n : Memory) (v : Readings) (u : Option OfCache) (o : Memory) (x : Readings) → KeptCache S r m w t n v → KeptCache S t n v u o x → KeptCache S r m w u o x
@@ -168,7 +154,6 @@ module _ (S : ℕ) (laws : CallLaws S) where
     reader = λ below d. b.reader below (a.reader below d);
     missed = λ d. (let e = a.missed d in let f = b.missed e.0 in (f.0, f.1 ∙ e.1));
     unread = λ d. (let e = a.unread d in let f = b.unread e.0 in (f.0, f.1 ∙ e.1));
-    known = λ snap is d. (let e = a.known snap is d in let f = b.known snap (a.of snap is) (subst (λ x. IsKnownWhole x snap) (sym e.0) d) in (f.0 ∙ e.0, f.1 ∙ e.1));
   }
 
   -- ---- all of them
@@ -225,7 +210,6 @@ module _ (S : ℕ) (laws : CallLaws S) where
     reader = k.cache.reader;
     missed = k.cache.missed;
     unread = k.cache.unread;
-    known = λ held are d. k.cache.known held.cached are.cached d;
   }
 
   pub called : (y : Pos) (ok : Bool) (s t : Three) → InTurn (OneStep layers_did (OfNext y)) ok s t → KeptLayers S s t
@@ -241,7 +225,6 @@ kept_then S s t u a b = record {
   reader = λ below d. b.reader below (a.reader below d);
   missed = λ d. (let e = a.missed d in let f = b.missed e.0 in (f.0, f.1 ∙ e.1));
   unread = λ d. (let e = a.unread d in let f = b.unread e.0 in (f.0, f.1 ∙ e.1));
-  known = λ held are d. (let e = a.known held are d in let f = b.known held (a.layers held are) (subst (λ x. IsKnownWhole x held.cached) (sym e.0) d) in (f.0 ∙ e.0, f.1 ∙ e.1));
 }
 
 -- what is done to the cached stream alone
@@ -256,7 +239,6 @@ by_cache S s t m n w v same k = record {
   reader = k.reader;
   missed = k.missed;
   unread = k.unread;
-  known = λ held are d. k.known held.cached are.cached d;
 }
 
 -- what is done after one call
@@ -267,8 +249,7 @@ cache_then S r m w t n v u o x a b = record {
   reader = λ below d. b.reader below (a.reader below d);
   missed = λ d. (let e = a.missed d in let f = b.missed e.0 in (f.0, f.1 ∙ e.1));
   unread = λ d. (let e = a.unread d in let f = b.unread e.0 in (f.0, f.1 ∙ e.1));
-  known = λ snap is d. (let e = a.known snap is d in let f = b.known snap (a.of snap is) (subst (λ x. IsKnownWhole x snap) (sym e.0) d) in (f.0 ∙ e.0, f.1 ∙ e.1));
 }
 
 pub cache_first : (S : ℕ) (r : Option OfCache) (m : Memory) (w : Readings) → KeptCache S r m w r m w
-cache_first S r m w = record { chains = leaves_same m; of = λ snap is. is; reader = λ below d. d; missed = λ d. (d, refl); unread = λ d. (d, refl); known = λ snap is d. (refl, refl) }
+cache_first S r m w = record { chains = leaves_same m; of = λ snap is. is; reader = λ below d. d; missed = λ d. (d, refl); unread = λ d. (d, refl) }

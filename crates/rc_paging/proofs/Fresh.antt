@@ -20,7 +20,7 @@ use Rattle.rc_cached.specs.Leaving.{LeavesChains}
 use Rattle.rc_cached.specs.Streams.{IsNewCached, IsOfCached, OfCache, StillSays, read_below}
 use Rattle.rc_paging.specs.declared.memtables.MemtableStream.{MemtableStream}
 use Rattle.rc_paging.specs.declared.layers.HeldSnaps.{HeldSnaps}
-use Rattle.rc_paging.specs.calls.Layers.{AreLayers, IsCacheLayerOf, IsMemtableLayerOf, IsNewCacheLayer, IsNewMemtableLayer, OfLayers, cached_in}
+use Rattle.rc_paging.specs.calls.Layers.{IsCacheLayerOf, IsMemtableLayerOf, IsNewCacheLayer, IsNewMemtableLayer}
 use Rattle.rc_paging.specs.Memtables.{IsOfMemtable}
 use Rattle.rc_paging.specs.Pages.{StandCached, StandsCached}
 use Rattle.rc_paging.specs.calls.Standing.{StillSeesIn}
@@ -77,14 +77,11 @@ cache_of made (Some s) None new = absurd new
 cache_of made (Some s) (Some r) new = made s r new
 
 -- nothing is handed in below a new stream
-cache_unread : (snap : Option Snap) (r : Option OfCache) (w : Readings) → IsNewCacheLayer snap r → w.list ≡ None → IsUnreadIn w r
+pub cache_unread : (snap : Option Snap) (r : Option OfCache) (w : Readings) → IsNewCacheLayer snap r → w.list ≡ None → IsUnreadIn w r
 cache_unread None None w new none = tt
 cache_unread None (Some r) w new none = absurd new
 cache_unread (Some s) None w new none = absurd new
 cache_unread (Some s) (Some r) w new none = λ i. option_or (new.below i).list (none i)
-
-pub new_unread : (held : HeldSnaps) (s : OfLayers) (w : Readings) → AreLayers held s → w.list ≡ None → IsUnreadIn w (cached_in s)
-new_unread held s w new none = subst (IsUnreadIn w) (sym (ap (λ (z : OfLayers). cached_in z) new.all)) (cache_unread held.cached new.cached.stream w new.new_cached none)
 
 -- a stream for whose snapshot writes stand, and below which what was read says what they say, is a reader of them
 pub reader_of : (S : ℕ) (below : List Mutation) (m : Memory) (w : Readings) (s : Snap) (r : OfCache) → IsOfCached s r → StandsForWrites S m s.chain s.pin below → StillSays below w r → IsReaderOf of_snapshot of_underlying (of_its_filler S) below r m w

@@ -1,23 +1,29 @@
 -- What is left to an open reader over the chains that its snapshots are of, and why its calls are refused.
 --     StandFor        snapshots stand for what tables say, and for what is sealed and written since
 --     LinesAreLeft    these lines are left to an open reader
---     IsKnownWhole    all of the partition is known to the row cache
+--     page_end        up to where a page looks
+--     IsStretchKnown, IsPageKnown    what a page passes is known to the row cache
 --     left_on         what is left of lines after a page
-use Rattle.std.specs.Prelude.{◌≡◌, ◌++◌, ℕ, false, List, [], Option, IfSome, MatchOption, Result, Ok, Err, drop, take}
+use Rattle.std.specs.Prelude.{◌≡◌, ◌++◌, ℕ, false, List, [], ◌∷◌, Option, IfSome, MatchOption, Result, Ok, Err, drop, take}
 use Rattle.rc_mutation.specs.declared.mutations.Mutation.{Mutation}
 use Rattle.rc_schema.specs.SchemaValue.{SchemaValue}
 use Rattle.rc_query.specs.declared.lines.OutLine.{OutLine}
+use Rattle.rc_query.specs.declared.lines.OutLine.TheVariants as line
 use Rattle.rc_query.specs.Answer.{answer}
+use Rattle.rc_position.specs.declared.positions.Pos.{Pos}
+use Rattle.rc_position.specs.declared.slices.Slice.{Slice}
+use Rattle.rc_position.specs.Position.{IsBefore, start_bound}
 use Rattle.rc_core.specs.Version.{end_position}
 use Rattle.rc_memory.specs.Memory.{Memory}
 use Rattle.rc_chain.specs.declared.chains.Snap.{Snap}
+use Rattle.rc_stream.specs.Places.{Reaches}
 use Rattle.rc_stream.specs.Stream.{Stream}
 use Rattle.rc_cursor.specs.Snapshots.{IsHeadSeen, Knows}
-use Rattle.rc_cacheread.specs.Sharing.{IsAllKnown}
+use Rattle.rc_cacheread.specs.Passing.{IsKnownFrom}
+use Rattle.rc_cacheread.specs.Sharing.{IsStaticRowKnown}
 use Rattle.rc_filler.specs.Fillers.{IsFillerReady}
 use Rattle.rc_filler.specs.Stands.{StandsForWrites}
 use Rattle.rc_snapshots.specs.Seeing.{SeesAllOf}
-use Rattle.rc_snapshots.specs.Streams.{first_position}
 use Rattle.rc_opened.specs.Opened.{AreChangesOf}
 use Rattle.rc_cached.specs.declared.readings.Readings.{Readings}
 use Rattle.rc_cached.specs.Streams.{filler_for}
@@ -58,9 +64,20 @@ pub record LinesAreLeft (S : ℕ) (m : Memory) (o : OpenReader) (below : List Mu
   pub are : lines ≡ drop (given_before o.remainder) (answer (below ++ (writes ++ later)) o.remainder.slice)
   pub told : MatchOption o.behind (given_before o.remainder ≡ 0) (λ kept. kept ≡ take 1 lines)
 
--- all of the partition is known to the snapshot of the row cache, where there is one: the static row, and each position
-abbrev pub IsKnownWhole : Memory → Option Snap → Type 0
-IsKnownWhole m snap = IfSome snap (λ s. IsAllKnown (Knows m s) (IsHeadSeen m s) first_position end_position)
+-- of a partition the static row is known to a snapshot, and from x on each position up to y, but for those inside a row
+pub record IsStretchKnown (m : Memory) (x y : Pos) (s : Snap) : Type 0 where
+  pub static_row : IsStaticRowKnown (IsHeadSeen m s)
+  pub each : (z : Pos) → Reaches x z → Reaches z y → IsBefore z end_position → IsKnownFrom (Knows m s) x z
+
+-- up to where a page looks in a slice, where these lines are behind it: right behind the row of the first of them; to where the slice ends, if that is none
+abbrev pub page_end : List OutLine → Slice → Pos
+page_end [] slice = slice.to
+page_end (line.Static values ∷ lines) slice = slice.to
+page_end (line.Row key values ∷ lines) slice = start_bound key false
+
+-- a page of so many of the lines that are left to an open reader is known to its snapshot of the row cache, where there is one: from where what is left of its slice begins, which is at the row of the last line that was given, up to where it looks
+abbrev pub IsPageKnown : Memory → OpenReader → ℕ → List OutLine → Type 0
+IsPageKnown m o n lines = IfSome o.held.cached (IsStretchKnown m o.remainder.slice.from (page_end (drop n lines) o.remainder.slice))
 
 -- what is left of lines after a page of so many; all of them, where it was refused
 abbrev pub left_on : {T : Type 0} → Result T PageErr → ℕ → List OutLine → List OutLine

@@ -1,6 +1,6 @@
 // What an open reader reads.
 ghost use Rattle.std.specs.Prelude.{◌≡◌, None, Some};
-ghost use Rattle.rc_paging.specs.calls.Layers.{AreLayers, IsNewMemtableLayer, IsNewCacheLayer, held_in, memtable_snap_in, none_held, cache_snap_in};
+ghost use Rattle.rc_paging.specs.calls.Layers.{AreMemtableLayers, IsNewMemtableLayer, IsNewCacheLayer, held_in, memtable_snap_in, none_held, cache_snap_in};
 
 use crate::memtables::MemtableStream;
 use crate::optional::Optional;
@@ -37,7 +37,7 @@ fn memtable_stream(alloc: Global, snap: Option<Snap>) -> Optional<MemtableStream
 }
 
 // What the row cache has of a partition, where this is the snapshot of it, from the beginning of the partition.
-fn cache_stream(alloc: Global, snap: Option<Snap>) -> Optional<CachedStream>
+pub(crate) fn cache_stream(alloc: Global, snap: Option<Snap>) -> Optional<CachedStream>
     ensures { IsNewCacheLayer snap result.stream }
 {
     Optional {
@@ -48,17 +48,18 @@ fn cache_stream(alloc: Global, snap: Option<Snap>) -> Optional<CachedStream>
     }
 }
 
-// What a reader of these snapshots reads, from the beginning of its partition.
-pub(crate) fn layers(alloc: Global, held: HeldSnaps) -> Layers
-    ensures { AreLayers held result }
+// What a reader of these snapshots of memtables reads, from the beginning of its partition.
+pub(crate) fn memtable_layers(
+    alloc: Global,
+    written: Snaps,
+) -> Merge<Optional<MemtableStream>, Optional<MemtableStream>>
+    ensures { AreMemtableLayers written result }
 {
-    let HeldSnaps { cached, written } = held;
     let Snaps { sealed, active } = written;
-    let both = Merge::new(
+    Merge::new(
         memtable_stream(alloc, sealed),
         memtable_stream(alloc, active),
-    );
-    Merge::new(both, cache_stream(alloc, cached))
+    )
 }
 
 // The snapshot of what was read of a memtable.

@@ -12,6 +12,7 @@ mod pages;
 mod paging;
 mod past;
 mod remainders;
+mod seeking;
 mod serving;
 mod standing;
 

@@ -1,5 +1,5 @@
 // A page of an open reader, by its snapshots.
-ghost use Rattle.std.specs.Prelude.{◌≡◌, ◌++◌, List, None, IfErr, IfOk, IsSome, length, take, drop, nat_lt};
+ghost use Rattle.std.specs.Prelude.{◌≡◌, ◌++◌, List, None, IfErr, IfOk, IfSome, IsSome, length, take, drop, nat_lt};
 ghost use Rattle.rc_mutation.specs.declared.mutations.Mutation.{Mutation};
 ghost use Rattle.rc_schema.specs.SchemaValue.{SchemaValue};
 ghost use Rattle.rc_query.specs.Answer.{answer};
@@ -7,15 +7,14 @@ ghost use Rattle.rc_opened.specs.Opened.{AreChangesOf};
 ghost use Rattle.rc_cached.specs.Leaving.{LeavesChains};
 ghost use Rattle.rc_cached.specs.Streams.{SayBelow};
 ghost use Rattle.rc_paging.specs.declared.pages.PageErr.TheVariants.{Missing, NoMemory};
-ghost use Rattle.rc_paging.specs.Pages.{IsKnownWhole, StandFor, readings_with};
+ghost use Rattle.rc_paging.specs.Pages.{IsStretchKnown, StandFor, page_end, readings_with};
 ghost use Rattle.rc_paging.specs.calls.Pages.{why};
 ghost use Rattle.rc_paging.specs.Remainders.{given_before};
 
 use crate::filling::filled_ahead;
-use crate::layers::{HeldSnaps, given_back, layers};
-use crate::opening::new_layers_say_what_was_written;
+use crate::layers::{HeldSnaps, given_back};
 use crate::pages::PageErr;
-use crate::paging::page;
+use crate::paging::paged;
 use crate::remainders::Remainder;
 use rc_cached::Readings;
 use rc_chain::Chains;
@@ -64,32 +63,23 @@ pub(crate) fn serve<const S: usize>(
     ensures held { result.0 ≡ held }
     ensures stand { (below writes later : List Mutation) → StandFor S chains.old held below writes later → SayBelow below (readings_with read) → StandFor S chains.new held below writes later }
     ensures missing { IfErr result.1 (λ e. e ≡ Missing → IsSome held.cached × (read ≡ None)) }
-    ensures known { IsKnownWhole chains.old held.cached → IfErr result.1 (λ e. e ≡ NoMemory) }
-    ensures quiet { IsKnownWhole chains.old held.cached → chains.new ≡ chains.old }
+    ensures known { (schema : SchemaValue) (below writes later : List Mutation) → AreChangesOf schema below → AreChangesOf schema writes → AreChangesOf schema later → StandFor S chains.old held below writes later → SayBelow below (readings_with read) →
+        IfSome held.cached (IsStretchKnown chains.old remainder.now.slice.from (page_end (drop count (drop (given_before remainder.now) (answer (below ++ (writes ++ later)) remainder.now.slice))) remainder.now.slice)) → IfErr result.1 (λ e. e ≡ NoMemory) }
     ensures unread { read ≡ None → chains.new ≡ chains.old }
     ensures chains { LeavesChains chains.old chains.new }
 {
-    new_layers_say_what_was_written::<S>();
     a_snapshot_sees_what_it_saw();
     let handed = read.is_some();
     let mut readings = readings(read);
     let passed = remainder.given_before();
-    let layers = layers(alloc, held);
-    let (layers, gave) = page(
-        alloc,
-        chains,
-        &mut readings,
-        layers,
-        &remainder.slice,
-        passed,
-        count,
-    );
-    let upto = &remainder.slice.to;
-    let wanted = handed && gave.is_ok();
-    let layers = filled_ahead(alloc, chains, &mut readings, layers, upto, wanted);
-    let held = given_back(layers);
+    let slice = &remainder.slice;
+    let (layers, gave) = paged(alloc, chains, &mut readings, held, slice, passed, count);
     match gave {
-        Ok(gave) => (held, Ok(gave)),
-        Err(_) => (held, Err(cause(&readings))),
+        Ok(gave) => {
+            let upto = &slice.to;
+            let layers = filled_ahead(alloc, chains, &mut readings, layers, upto, handed);
+            (given_back(layers), Ok(gave))
+        }
+        Err(_) => (given_back(layers), Err(cause(&readings))),
     }
 }

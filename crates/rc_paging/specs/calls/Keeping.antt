@@ -1,34 +1,65 @@
 -- What calls keep of what an open reader reads.
-use Rattle.std.specs.Prelude.{◌≡◌, ℕ, List, Option}
+use Rattle.std.specs.Prelude.{◌≡◌, ℕ, List, Option, Some, None, IfSome}
+use Rattle.rc_position.specs.declared.positions.Pos.{Pos}
+use Rattle.rc_stream.specs.Did.{OfNext}
+use Rattle.rc_stream.specs.Places.{Reaches}
+use Rattle.rc_cursor.specs.Snapshots.{IsHeadSeen, Knows}
+use Rattle.rc_cacheread.specs.Did.{IsKnownFor}
+use Rattle.rc_cacheread.specs.Spots.{stand}
 use Rattle.rc_mutation.specs.declared.mutations.Mutation.{Mutation}
 use Rattle.rc_memory.specs.Memory.{Memory}
 use Rattle.rc_cached.specs.declared.readings.Readings.{Readings}
 use Rattle.rc_chain.specs.declared.chains.Snap.{Snap}
 use Rattle.rc_cached.specs.Leaving.{LeavesChains}
-use Rattle.rc_cached.specs.Streams.{OfCache}
+use Rattle.rc_cached.specs.Streams.{OfCache, SayBelow}
+use Rattle.rc_paging.specs.Pages.{StandFor}
 use Rattle.rc_paging.specs.declared.layers.HeldSnaps.{HeldSnaps}
 use Rattle.rc_paging.specs.calls.Layers.{AreLayersOf, IsCacheLayerOf, OfLayers, cached_in}
-use Rattle.rc_paging.specs.Pages.{IsKnownWhole}
 use Rattle.rc_paging.specs.calls.Words.{IsReadIn, IsReaderIn, IsUnreadIn}
 
 -- what an open reader reads, with chains and readings
 abbrev pub Three : Type 0
 Three = OfLayers × Memory × Readings
 
--- calls leave the chains to others, the layers those of their snapshots, and the cached stream a reader of the writes of which it was one; and where what the tables say was read, nothing is missed; and where nothing was read, nothing is then, and the chains are as they were; and where all is known, chains and readings are as they were
+-- calls leave the chains to others, the layers those of their snapshots, and the cached stream a reader of the writes of which it was one; and where what the tables say was read, nothing is missed; and where nothing was read, nothing is then, and the chains are as they were
 pub record KeptLayers (S : ℕ) (s t : Three) : Type 0 where
   pub chains : LeavesChains s.1 t.1
   pub layers : (held : HeldSnaps) → AreLayersOf held s.0 → AreLayersOf held t.0
   pub reader : (below : List Mutation) → IsReaderIn S below s.1 s.2 (cached_in s.0) → IsReaderIn S below t.1 t.2 (cached_in t.0)
   pub missed : IsReadIn s.2 (cached_in s.0) → IsReadIn t.2 (cached_in t.0) × (t.2.missed ≡ s.2.missed)
   pub unread : IsUnreadIn s.2 (cached_in s.0) → IsUnreadIn t.2 (cached_in t.0) × (t.1 ≡ s.1)
-  pub known : (held : HeldSnaps) → AreLayersOf held s.0 → IsKnownWhole s.1 held.cached → (t.1 ≡ s.1) × (t.2 ≡ s.2)
 
--- calls of a cached stream, where there is one, leave the chains to others, it that of its snapshot, and a reader of the writes of which it was one; and where what the tables say was read, nothing is missed; and where nothing was read, nothing is then, and the chains are as they were; and where all is known, chains and readings are as they were
+-- calls of a cached stream, where there is one, leave the chains to others, it that of its snapshot, and a reader of the writes of which it was one; and where what the tables say was read, nothing is missed; and where nothing was read, nothing is then, and the chains are as they were
 pub record KeptCache (S : ℕ) (r : Option OfCache) (m : Memory) (w : Readings) (t : Option OfCache) (n : Memory) (v : Readings) : Type 0 where
   pub chains : LeavesChains m n
   pub of : (snap : Option Snap) → IsCacheLayerOf snap r → IsCacheLayerOf snap t
   pub reader : (below : List Mutation) → IsReaderIn S below m w r → IsReaderIn S below n v t
   pub missed : IsReadIn w r → IsReadIn v t × (v.missed ≡ w.missed)
   pub unread : IsUnreadIn w r → IsUnreadIn v t × (n ≡ m)
-  pub known : (snap : Option Snap) → IsCacheLayerOf snap r → IsKnownWhole m snap → (n ≡ m) × (v ≡ w)
+
+-- layers are those of these snapshots; their cached stream is a reader of the writes for which the snapshots stand, where what was read says what they say; and nothing is read below it where nothing was handed in
+pub record AreBegun (S : ℕ) (held : HeldSnaps) (m : Memory) (w : Readings) (s : OfLayers) : Type 0 where
+  pub layers : AreLayersOf held s
+  pub reader : (below writes later : List Mutation) → StandFor S m held below writes later → SayBelow below w → IsReaderIn S below m w (cached_in s)
+  pub unread : w.list ≡ None → IsUnreadIn w (cached_in s)
+
+-- no seek is due, and the cached stream, where there is one, stands at x
+pub record IsPlacedAt (x : Pos) (s : OfLayers) : Type 0 where
+  pub due : s.due ≡ None
+  pub at : IfSome (cached_in s) (λ r. stand r.spot ≡ x)
+
+-- what a cached stream passes up to y is known to this snapshot, which is its own, and it does not stand before x
+pub record IsStreamAhead (x y : Pos) (snap : Option Snap) (m : Memory) (r : OfCache) : Type 0 where
+  pub of : IsCacheLayerOf snap (Some r)
+  pub on : Reaches x (stand r.spot)
+  pub known : IsKnownFor (OfNext y) (Knows m r.known.snap) (IsHeadSeen m r.known.snap) (stand r.spot) r.to
+
+-- so of what an open reader reads, of which no seek is due but one to x
+pub record AreAhead (x y : Pos) (snap : Option Snap) (s : Three) : Type 0 where
+  pub due : IfSome s.0.due (λ z. z ≡ x)
+  pub cached : IfSome (cached_in s.0) (IsStreamAhead x y snap s.1)
+
+-- chains and readings are as they were
+pub record IsQuiet (s t : Three) : Type 0 where
+  pub home : t.1 ≡ s.1
+  pub store : t.2 ≡ s.2

@@ -1,11 +1,12 @@
 -- What an open reader reads, as it is made and taken apart again.
---     AreLayers    what the reader of snapshots reads, as it is made
+--     AreMemtableLayers    what the reader of snapshots of memtables reads, as it is made
 --     held_in    the snapshots that are read
 --     AreLayersOf    the streams are those of snapshots, wherever they stand
 use Rattle.std.specs.Prelude.{Option, None, option_map}
 use Rattle.rc_chain.specs.declared.chains.Snap.{Snap}
 use Rattle.rc_stream.specs.declared.merges.Merge.{Merge}
 use Rattle.rc_stream.specs.Did.{IsNewMerge}
+use Rattle.rc_snapshots.specs.declared.snaps.Snaps.{Snaps}
 use Rattle.rc_snapshots.specs.Streams.{IsNewStream, IsOf}
 use Rattle.rc_cached.specs.Streams.{IsNewCached, IsOfCached, OfCache}
 use Rattle.rc_paging.specs.declared.memtables.MemtableStream.{MemtableStream}
@@ -37,17 +38,13 @@ IsNewMemtableLayer = WithBoth (λ s r. IsNewStream s r.stream) (Unit {0})
 abbrev pub IsNewCacheLayer : Option Snap → Option OfCache → Type 0
 IsNewCacheLayer = WithBoth (λ s r. IsNewCached s r) (Unit {0})
 
--- what the reader of snapshots reads, as it is made: what is sealed, with what is written since; and with both what the row cache has
-pub record AreLayers (held : HeldSnaps) (s : OfLayers) : Type 0 where
-  pub inner : Merge (Optional MemtableStream) (Optional MemtableStream)
+-- what the reader of snapshots of memtables reads, as it is made: what is sealed, with what is written since
+pub record AreMemtableLayers (written : Snaps) (s : Merge (Optional MemtableStream) (Optional MemtableStream)) : Type 0 where
   pub sealed : Optional MemtableStream
   pub active : Optional MemtableStream
-  pub cached : Optional OfCache
-  pub new_sealed : IsNewMemtableLayer held.written.sealed sealed.stream
-  pub new_active : IsNewMemtableLayer held.written.active active.stream
-  pub new_cached : IsNewCacheLayer held.cached cached.stream
-  pub written : IsNewMerge sealed active inner
-  pub all : IsNewMerge inner cached s
+  pub new_sealed : IsNewMemtableLayer written.sealed sealed.stream
+  pub new_active : IsNewMemtableLayer written.active active.stream
+  pub both : IsNewMerge sealed active s
 
 -- the snapshot of a memtable's stream
 abbrev pub memtable_snap_in : Option MemtableStream → Option Snap

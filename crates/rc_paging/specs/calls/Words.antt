@@ -2,7 +2,8 @@
 use Rattle.std.specs.Prelude.{◌≡◌, ⊤, ℕ, List, Option, None, IfSome, MatchOption, IsSome}
 use Rattle.rc_mutation.specs.declared.mutations.Mutation.{Mutation}
 use Rattle.rc_memory.specs.Memory.{Memory}
-use Rattle.rc_cacheread.specs.Sharing.{IsReaderOf, IsReady}
+use Rattle.rc_cursor.specs.Snapshots.{IsHeadSeen}
+use Rattle.rc_cacheread.specs.Sharing.{IsReaderOf, IsReady, IsStaticRowKnown}
 use Rattle.rc_cached.specs.declared.readings.Readings.{Readings}
 use Rattle.rc_cached.specs.calls.Parts.{of_its_filler, of_snapshot, of_underlying}
 use Rattle.rc_cached.specs.Streams.{OfCache, read_below}
@@ -18,6 +19,10 @@ IsReadIn w cached = MatchOption cached ⊤ (λ r. IsSome (read_below r w))
 -- there is no cached stream, or nothing of its tables was read
 abbrev pub IsUnreadIn : Readings → Option OfCache → Type 0
 IsUnreadIn w cached = IfSome cached (λ r. read_below r w ≡ None)
+
+-- where there is a cached stream, its snapshot knows the static row
+abbrev pub IsStaticKnownIn : Memory → Option OfCache → Type 0
+IsStaticKnownIn m cached = IfSome cached (λ r. IsStaticRowKnown (IsHeadSeen m r.known.snap))
 
 -- where there is a cached stream, its calls may be made
 abbrev pub IsReadyIn : ℕ → Memory → Readings → Option OfCache → Type 0

@@ -1,10 +1,13 @@
 -- The lines that are left behind those that were passed; and what both calls keep.
-use Rattle.std.proofs.Common.{inl, sym, ap, subst, ◌∙◌, drop}
+use Rattle.std.proofs.Common.{arith, inl, sym, ap, subst, ◌∙◌, ◌+◌, drop}
 use Rattle.rc_stream.specs.Did.{has_answer}
 use Rattle.rc_stream.specs.laws.Ordered.{passes-itself}
 use Rattle.rc_reader.specs.Left.{left_after}
 use Rattle.rc_paging.specs.calls.Keeping.{KeptLayers, Three}
+use Rattle.rc_reader.specs.Steps.{GoesNoFurther}
+use Rattle.rc_paging.specs.calls.Keeping.{IsQuiet}
 use Rattle.rc_paging.proofs.Called.{CallLaws, called, kept_then}
+use Rattle.rc_paging.proofs.Quiet.{behind_those, fewer, quiet_then, reads_quiet}
 use Rattle.rc_paging.proofs.paging.behind_passed.Goals as goal
 
 pub returns-in-Ok-clause-gives : goal.returns-in-Ok-clause-gives
@@ -46,3 +49,24 @@ returns-in-Err-clause-kept g c =
     let t : Three = (c.read.new.self.stream, c.read.new.home, c.read.new.store) in
     let one = called g.row.S laws x (has_answer c.read.result) s t (c.read.ensures.did x (inl (passes-itself x))) in
     subst (λ z. KeptLayers g.row.S s (z, c.read.new.home, c.read.new.store)) (sym c.into_stream-in-Err.ensures) one
+
+pub returns-in-Ok-clause-quiet : goal.returns-in-Ok-clause-quiet
+returns-in-Ok-clause-quiet g c = λ x y snap far ahead.
+    let laws : CallLaws g.row.S = record { leaves = c.a_cached_stream_leaves_what_others_see.ensures.did; handed = c.a_cached_stream_misses_only_what_is_not_known.ensures.handed; unread = c.a_cached_stream_misses_only_what_is_not_known.ensures.unread; known = c.a_cached_stream_misses_only_what_is_not_known.ensures.known } in
+    let s : Three = (c.args.reader.stream, c.args.chains.now, c.args.readings.now) in
+    let t : Three = (c.read.new.self.stream, c.read.new.home, c.read.new.store) in
+    let u : Three = (c.with_behind-gave.new.reader.stream, c.with_behind-gave.new.chains, c.with_behind-gave.new.readings) in
+    let first = fewer _ c.args.reader.work (c.args.passed + c.args.count) c.args.passed y (omega arith) far in
+    let one = reads_quiet g.row.S laws x y snap (has_answer c.read.result) s t (c.read.ensures.did y first) ahead in
+    let there = subst (λ n. GoesNoFurther _ c.read.new.self.work n y) (behind_those c.args.passed c.args.count) (c.in-Ok.ensures.goes (c.args.passed + c.args.count) y (omega arith) far) in
+    let two = c.with_behind-gave.ensures.quiet x y snap there (one.1 (ap has_answer c.in-Ok.is)) in
+    subst (λ z. IsQuiet s (z, c.with_behind-gave.new.chains, c.with_behind-gave.new.readings)) (sym c.into_stream.ensures) (quiet_then s t u one.0 two)
+
+pub returns-in-Err-clause-quiet : goal.returns-in-Err-clause-quiet
+returns-in-Err-clause-quiet g c = λ x y snap far ahead.
+    let laws : CallLaws g.row.S = record { leaves = c.a_cached_stream_leaves_what_others_see.ensures.did; handed = c.a_cached_stream_misses_only_what_is_not_known.ensures.handed; unread = c.a_cached_stream_misses_only_what_is_not_known.ensures.unread; known = c.a_cached_stream_misses_only_what_is_not_known.ensures.known } in
+    let s : Three = (c.args.reader.stream, c.args.chains.now, c.args.readings.now) in
+    let t : Three = (c.read.new.self.stream, c.read.new.home, c.read.new.store) in
+    let first = fewer _ c.args.reader.work (c.args.passed + c.args.count) c.args.passed y (omega arith) far in
+    let one = reads_quiet g.row.S laws x y snap (has_answer c.read.result) s t (c.read.ensures.did y first) ahead in
+    subst (λ z. IsQuiet s (z, c.read.new.home, c.read.new.store)) (sym c.into_stream-in-Err.ensures) one.0
