@@ -1,5 +1,5 @@
 -- What the calls of an open reader's layers keep, one after another.
-use Rattle.std.proofs.Common.{◌≡◌, ℕ, Bool, true, false, Option, Some, None, refl, sym, ap, subst, inl, ◌∙◌}
+use Rattle.std.proofs.Common.{◌≡◌, ℕ, Bool, true, false, Option, Some, None, refl, sym, ap, subst, ◌∙◌}
 use Rattle.std.specs.declared.cmp.Ordering.TheVariants.{Less, Equal, Greater}
 use Rattle.std.specs.Ordering.{is_gt}
 use Rattle.std.specs.Option.{IsSome, option_or}
@@ -12,7 +12,6 @@ use Rattle.rc_chain.specs.declared.chains.Snap.{Snap}
 use Rattle.rc_stream.specs.Did.{Call, Call.OfHead, Call.OfNext, Call.OfSeek, Deed, InTurn, OurCall, TheirCall, merge_did, merge_state}
 use Rattle.rc_stream.specs.Stream.{Stream}
 use Rattle.rc_reader.specs.Steps.{OneStep, OpenCalls}
-use Rattle.rc_snapshots.specs.Streams.{first_position}
 use Rattle.rc_cached.specs.declared.readings.Readings.{Readings}
 use Rattle.rc_cached.specs.declared.underlying.Underlying.{Underlying}
 use Rattle.rc_cached.specs.Leaving.{LeavesChains}
@@ -20,7 +19,6 @@ use Rattle.rc_core.specs.Version.{end_position}
 use Rattle.rc_cursor.specs.Snapshots.{IsHeadSeen, Knows}
 use Rattle.rc_cacheread.specs.Did.{IsKnownFor, ReaderDid}
 use Rattle.rc_cacheread.specs.Spots.{stand}
-use Rattle.rc_cacheread.specs.Sharing.{IsAllKnown}
 use Rattle.rc_cached.specs.Streams.{IsOfCached, OfCache, read_below}
 use Rattle.rc_paging.specs.declared.memtables.MemtableStream.{MemtableStream}
 use Rattle.rc_paging.specs.declared.optional.Optional.{Optional}
@@ -31,7 +29,6 @@ use Rattle.rc_paging.specs.calls.Keeping.{KeptCache, KeptLayers, Three}
 use Rattle.rc_cached.specs.calls.Parts.{of_its_filler, of_snapshot, of_underlying}
 use Rattle.rc_paging.specs.calls.Standing.{OfMemtables}
 use Rattle.rc_paging.proofs.Kept.{merges, opens, reads}
-use Rattle.rc_paging.proofs.Unread.{first_reaches}
 use Rattle.rc_paging.proofs.Leaving.{leaves_same, leaves_then}
 
 -- ---- both memtables
@@ -44,7 +41,7 @@ abbrev pub memtables_did : Deed OfMemtables Memory Readings
 memtables_did = merge_did (DidIfAny memtable_did) (DidIfAny memtable_did)
 
 -- it is still that of each snapshot of which it was
-abbrev StillOf : Option MemtableStream → Option MemtableStream → Type 0
+abbrev pub StillOf : Option MemtableStream → Option MemtableStream → Type 0
 StillOf r t = (snap : Option Snap) → IsMemtableLayerOf snap r → IsMemtableLayerOf snap t
 
 same_one : (a b : MemtableStream) → DidAsOne a b → StillOf (Some a) (Some b)
@@ -58,14 +55,14 @@ keeps_one None (Some b) h g w v d = absurd d
 keeps_one (Some a) None h g w v d = absurd d
 keeps_one (Some a) (Some b) h g w v d = (same_one a b d.2, d.0, d.1)
 
-abbrev Pair : Type 0
+abbrev pub Pair : Type 0
 Pair = Optional MemtableStream × Optional MemtableStream × Memory × Readings
 
-record KeptPair (s t : Pair) : Type 0 where
-  sealed : StillOf s.0.stream t.0.stream
-  active : StillOf s.1.stream t.1.stream
-  home : t.2 ≡ s.2
-  store : t.3 ≡ s.3
+pub record KeptPair (s t : Pair) : Type 0 where
+  pub sealed : StillOf s.0.stream t.0.stream
+  pub active : StillOf s.1.stream t.1.stream
+  pub home : t.2 ≡ s.2
+  pub store : t.3 ≡ s.3
 
 pair_none : (s : Pair) → KeptPair s s
 pair_none s = record { sealed = λ snap is. is; active = λ snap is. is; home = refl; store = refl }
@@ -120,7 +117,7 @@ none_first : (a b : Option Stream) → option_or a b ≡ None → a ≡ None
 none_first None b n = refl
 none_first (Some s) b n = absurd (cc)
 
-unread_still : (a b : OfCache) (w v : Readings) → read_below a w ≡ None → b.below ≡ a.below → v.list ≡ None → read_below b v ≡ None
+pub unread_still : (a b : OfCache) (w v : Readings) → read_below a w ≡ None → b.below ≡ a.below → v.list ≡ None → read_below b v ≡ None
 unread_still a b w v none below list = (let first = ap (λ (u : Underlying). u.list) below ∙ none_first a.below.list w.list none in λ i. option_or (first i) (list i))
 
 module _ (S : ℕ) (laws : CallLaws S) where
@@ -133,7 +130,6 @@ module _ (S : ℕ) (laws : CallLaws S) where
   pub of_some : (a b : OfCache) → ((s : Snap) → IsOfCached s a → IsOfCached s b) → (snap : Option Snap) → IsCacheLayerOf snap (Some a) → IsCacheLayerOf snap (Some b)
   of_some a b d None is = absurd is
   of_some a b d (Some s) is = d s is
-
 
   pub keeps_cache : (r t : Option OfCache) (m : Memory) (w : Readings) (c : Call) (ok : Bool) (n : Memory) (v : Readings) → WithBoth (λ a b. cached_did S a m w c ok b n v) ((n ≡ m) × (v ≡ w)) r t → KeptCache S r m w t n v
   keeps_cache None None m w c ok n v d = cache_same None None m n w v refl d.0 d.1
@@ -158,7 +154,7 @@ module _ (S : ℕ) (laws : CallLaws S) where
 
   -- ---- all of them
 
-  abbrev Four : Type 0
+  abbrev pub Four : Type 0
   Four = OfMemtables × Optional OfCache × Memory × Readings
 
   record KeptAll (s t : Four) : Type 0 where
@@ -194,7 +190,7 @@ module _ (S : ℕ) (laws : CallLaws S) where
   abbrev pub layers_did : Deed OfLayers Memory Readings
   layers_did = merge_did memtables_did (DidIfAny (cached_did S))
 
-  abbrev four : Three → Four
+  abbrev pub four : Three → Four
   four s = merge_state s.0 s.1 s.2
 
   abbrev KeptThree : Three → Three → Type 0

@@ -1,6 +1,5 @@
 -- Where the first lines of a slice end: right behind the row of the line behind them, or where the slice does.
-use Rattle.std.proofs.Common.{◌≡◌, ℕ, zero, suc, ◌+◌, List, [], ◌∷◌, ◌++◌, take, drop, length, true, false, refl, sym, ap, subst, inl, inr, ◌∙◌, arith, length-append, length-take, length-drop}
-use Rattle.std.proofs.lemmas.List.{length-take-le}
+use Rattle.std.proofs.Common.{◌≡◌, ℕ, zero, suc, ◌+◌, List, [], ◌∷◌, ◌++◌, take, drop, length, true, false, refl, sym, ap, inl, inr, ◌∙◌, arith, length-append, length-take, length-drop}
 use Rattle.std.specs.Prelude.{◌<◌, All}
 use Rattle.std.specs.Ordering.{is_gt, is_le, ordering_reverse}
 use Rattle.std.specs.declared.cmp.Ordering.{Ordering}
@@ -24,11 +23,14 @@ use Rattle.rc_spliced.specs.Lines.{lines_from, lines_short_of}
 use Rattle.rc_paging.specs.Pages.{page_end}
 use Rattle.rc_paging.proofs.Behind.{parted}
 
+drop_none : (n : ℕ) → drop {A = OutLine} n [] ≡ []
+drop_none zero = refl
+drop_none (suc n) = refl
+
 pub drop_both : (n m : ℕ) (ls : List OutLine) → drop (n + m) ls ≡ drop m (drop n ls)
-drop_both zero m ls = refl
-drop_both (suc n) zero [] = refl
-drop_both (suc n) (suc m) [] = refl
-drop_both (suc n) m (l ∷ ls) = drop_both n m ls
+drop_both zero m ls = ap (λ k. drop k ls) (let e : 0 + m ≡ m = omega arith in e)
+drop_both (suc n) m [] = drop_none (suc n + m) ∙ sym (drop_none m)
+drop_both (suc n) m (l ∷ ls) = ap (λ k. drop k (l ∷ ls)) (let e : suc n + m ≡ suc (n + m) = omega arith in e) ∙ drop_both n m ls
 
 not_gt : (r : Ordering) → is_le (ordering_reverse r) ≡ false → is_gt r ≡ false
 not_gt Less h = refl

@@ -1,5 +1,5 @@
 -- The layers of an open reader, as they are made.
-use Rattle.std.proofs.Common.{◌≡◌, ℕ, List, Option, Some, None, MatchOption, sym, ap, subst, inl, inr}
+use Rattle.std.proofs.Common.{◌≡◌, ℕ, List, Option, Some, None, MatchOption, sym, subst, inl, inr}
 use Rattle.std.specs.Option.{IfSome, option_or}
 use Rattle.rc_mutation.specs.declared.mutations.Mutation.{Mutation}
 use Rattle.rc_mutation.specs.Fragments.{fragments}
@@ -19,7 +19,6 @@ use Rattle.rc_cached.specs.declared.readings.Readings.{Readings}
 use Rattle.rc_cached.specs.Leaving.{LeavesChains}
 use Rattle.rc_cached.specs.Streams.{IsNewCached, IsOfCached, OfCache, StillSays, read_below}
 use Rattle.rc_paging.specs.declared.memtables.MemtableStream.{MemtableStream}
-use Rattle.rc_paging.specs.declared.layers.HeldSnaps.{HeldSnaps}
 use Rattle.rc_paging.specs.calls.Layers.{IsCacheLayerOf, IsMemtableLayerOf, IsNewCacheLayer, IsNewMemtableLayer}
 use Rattle.rc_paging.specs.Memtables.{IsOfMemtable}
 use Rattle.rc_paging.specs.Pages.{StandCached, StandsCached}

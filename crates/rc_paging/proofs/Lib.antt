@@ -14,5 +14,6 @@ pub mod Paged
 pub mod Quiet
 pub mod Saying
 pub mod Served
+pub mod Sought
 pub mod Still
 pub mod Unread

@@ -26,6 +26,9 @@ past_refused left P m n r o s lines count gave x is e law l = subst (λ z. Leave
 pub cached_of : (P : OpenReader → Type 0) (r : PartReader) (o : OpenReader) → r ≡ Cached o → ByForm P (λ _. ⊤) r → P o
 cached_of P r o is h = subst (ByForm P (λ _. ⊤)) is h
 
+pub cached_by : (P : OpenReader → Type 0) (Q : OpenedBehind → Type 0) (r : PartReader) (o : OpenReader) → r ≡ Cached o → ByForm P Q r → P o
+cached_by P Q r o is h = subst (ByForm P Q) is h
+
 -- over other chains the same lines are left, by the form
 pub form_stays : (left : Opened → Memory → List OutLine → Type 0) → ((o : Opened) (m n : Memory) (lines : List OutLine) → SeeSameChanges (snaps_of o) m n → left o m lines → left o n lines) → (S : ℕ) →
     ((S : ℕ) (o : OpenReader) (m n : Memory) (below : List Mutation) (lines : List OutLine) → StandCached S below n o.held.cached → SeeSameChanges o.held.written m n → LinesAreLeft S m o below lines → LinesAreLeft S n o below lines) →

@@ -1,5 +1,5 @@
 -- Where what calls of an open reader's layers pass is known to the snapshot of the row cache, chains and readings stay as they are.
-use Rattle.std.proofs.Common.{◌≡◌, ◌≤◌, ◌+◌, ◌-◌, arith, ℕ, zero, suc, Bool, true, false, Option, Some, None, refl, sym, ap, subst, inl, inr, ◌∙◌}
+use Rattle.std.proofs.Common.{◌≡◌, ◌≤◌, arith, ℕ, zero, suc, Bool, true, false, Option, Some, None, refl, sym, ap, subst, inl, inr, ◌∙◌}
 use Rattle.std.specs.Option.{IfSome}
 use Rattle.std.specs.declared.cmp.Ordering.TheVariants.{Less, Equal, Greater}
 use Rattle.std.specs.Ordering.{is_le, ordering_reverse}
@@ -8,7 +8,7 @@ use Rattle.rc_position.specs.Position.{pos_cmp}
 use Rattle.rc_position.specs.laws.Orders.{pos_cmp_same, pos_cmp_total}
 use Rattle.rc_memory.specs.Memory.{Memory}
 use Rattle.rc_chain.specs.declared.chains.Snap.{Snap}
-use Rattle.rc_stream.specs.Did.{Call, Call.OfHead, Call.OfNext, Call.OfSeek, HeadsOnce, InTurn, IsDueNow, IsTheirs, OneCall, OurCall, PartsDid, StepsInTurn, TheirCall}
+use Rattle.rc_stream.specs.Did.{Call, Call.OfHead, Call.OfNext, Call.OfSeek, HeadsOnce, InTurn, IsDueNow, IsTheirs, OneCall, OurCall, StepsInTurn, TheirCall}
 use Rattle.rc_stream.specs.Places.{Reaches}
 use Rattle.rc_stream.specs.laws.Ordered.{passes-itself}
 use Rattle.rc_stream.specs.laws.Says.{le_le}
@@ -20,7 +20,7 @@ use Rattle.rc_stream.specs.Stream.{Stream}
 use Rattle.rc_reader.specs.declared.work.Work.{Work}
 use Rattle.rc_reader.specs.Steps.{GoesNoFurther, OneStep, OpenCalls}
 use Rattle.rc_cached.specs.declared.readings.Readings.{Readings}
-use Rattle.rc_cached.specs.Streams.{IsOfCached, OfCache}
+use Rattle.rc_cached.specs.Streams.{OfCache}
 use Rattle.rc_paging.specs.declared.optional.Optional.{Optional}
 use Rattle.rc_paging.specs.Optional.{DidIfAny, WithBoth}
 use Rattle.rc_paging.specs.Pages.{IsStretchKnown}
@@ -68,9 +68,6 @@ module _ {T : Type 0} (step : Bool → T → T → Type 0) (A : T → Type 0) (Q
 pub fewer : (P : Stream → Type 0) (w : Work) (n m : ℕ) (y : Pos) → m ≤ n → GoesNoFurther P w n y → GoesNoFurther P w m y
 fewer P w n m y less (inl e) = inl e
 fewer P w n m y less (inr h) = inr (h.0, h.1, omega (arith, less, h.2))
-
-pub behind_those : (n m : ℕ) → n + m - n ≡ m
-behind_those n m = omega arith
 
 pub quiet_then : (s t u : Three) → IsQuiet s t → IsQuiet t u → IsQuiet s u
 quiet_then s t u a b = record { home = b.home ∙ a.home; store = b.store ∙ a.store }
@@ -170,7 +167,7 @@ module _ (S : ℕ) (laws : CallLaws S) (x y : Pos) (snap : Option Snap) where
   next_step : (ok : Bool) (s t : Three) → OneStep (layers_did S laws) (OfNext y) ok s t → AreAhead x y snap s → IsQuiet s t × (ok ≡ true → AreAhead x y snap t)
   next_step ok s t d a =
       let e = turns (OneCall memtables_did (DidIfAny (cached_did S)) s.0.due y) Ahead4 Quiet4 quiet_none quiet_more (one s.0.due a.due) ok (four S laws s) (four S laws t) d.calls a.cached in
-      (record { home = e.0.0; store = e.0.1 }, λ yes. record { due = due_after s.0.due t.0.due ok yes d.leaves; cached = e.1 yes })
+      (record { home = e.0.0; store = e.0.1 }, λ answered. record { due = due_after s.0.due t.0.due ok answered d.leaves; cached = e.1 answered })
 
   three_none : (s : Three) → IsQuiet s s
   three_none s = record { home = refl; store = refl }
@@ -209,7 +206,7 @@ module _ (S : ℕ) (laws : CallLaws S) (x y : Pos) (snap : Option Snap) where
   head_step : (ok : Bool) (s t : Three) → OneStep (layers_did S laws) OfHead ok s t → IsStaticKnownIn s.1 (cached_in s.0) → AreAhead x y snap s → IsQuiet s t × (ok ≡ true → AreAhead x y snap t)
   head_step ok s t d k a =
       let e = heads ok (four S laws s) (four S laws t) d.calls k a.cached in
-      (record { home = e.0.0; store = e.0.1 }, λ yes. record { due = head_due s.0.due t.0.due ok yes d.leaves a.due; cached = e.1 })
+      (record { home = e.0.0; store = e.0.1 }, λ answered. record { due = head_due s.0.due t.0.due ok answered d.leaves a.due; cached = e.1 })
 
   seek_due : (due now : Option Pos) (ok : Bool) → ok ≡ true → IsDueNow due (OfSeek x) ok now → IfSome now (λ u. u ≡ x)
   seek_due due now true e l = subst (λ o. IfSome o (λ u. u ≡ x)) (sym l) refl
@@ -218,7 +215,7 @@ module _ (S : ℕ) (laws : CallLaws S) (x y : Pos) (snap : Option Snap) where
   seek_step : (ok : Bool) (s t : Three) → OneStep (layers_did S laws) (OfSeek x) ok s t → AreAhead x y snap s → IsQuiet s t × (ok ≡ true → AreAhead x y snap t)
   seek_step ok s t d a = (
     record { home = ap (λ (q : Four). q.2) (sym d.calls); store = ap (λ (q : Four). q.3) (sym d.calls) },
-    λ yes. record { due = seek_due s.0.due t.0.due ok yes d.leaves; cached = subst Ahead4 d.calls a.cached },
+    λ answered. record { due = seek_due s.0.due t.0.due ok answered d.leaves; cached = subst Ahead4 d.calls a.cached },
   )
 
   pub opens_quiet : (ok : Bool) (s t : Three) → OpenCalls (layers_did S laws) x ok s t → IsStaticKnownIn s.1 (cached_in s.0) → AreAhead x y snap s → IsQuiet s t × (ok ≡ true → AreAhead x y snap t)
@@ -230,11 +227,12 @@ module _ (S : ℕ) (laws : CallLaws S) (x y : Pos) (snap : Option Snap) where
           | inl same ↦ subst (IsQuiet s) same e.0
           | inr last ↦ quiet_then s h.0 t e.0 (seek_step false h.0 t last (e.1 refl)).0
         ],
-        λ yes. absurd (cc),
+        λ answered. absurd (cc),
       )
 
-  -- ---- the beginning
+-- ---- the beginning
 
+module _ (S : ℕ) (x y : Pos) (snap : Option Snap) where
   begun_stream : (m : Memory) (o : Option Snap) (c : Option OfCache) → IsCacheLayerOf o c → IfSome c (λ r. stand r.spot ≡ x) → IfSome o (IsStretchKnown m x y) → IfSome c (λ r. IsCacheLayerOf o (Some r) × Reaches x (stand r.spot) × IsKnownFor (OfNext y) (Knows m r.known.snap) (IsHeadSeen m r.known.snap) (stand r.spot) r.to)
   begun_stream m None None is at k = tt
   begun_stream m None (Some r) is at k = absurd is
@@ -245,7 +243,7 @@ module _ (S : ℕ) (laws : CallLaws S) (x y : Pos) (snap : Option Snap) where
     subst (λ (q : Snap × Pos). IsKnownFor (OfNext y) (Knows m q.0) (IsHeadSeen m q.0) q.1 r.to) (λ i. (sym is.snap i, sym at i)) (λ z from upto before. k.each z from upto (before_end z r.to before)),
   )
 
-  ahead_of : (m : Memory) (c : Option OfCache) → IfSome c (λ r. IsCacheLayerOf snap (Some r) × Reaches x (stand r.spot) × IsKnownFor (OfNext y) (Knows m r.known.snap) (IsHeadSeen m r.known.snap) (stand r.spot) r.to) → IfSome c (Ahead m)
+  ahead_of : (m : Memory) (c : Option OfCache) → IfSome c (λ r. IsCacheLayerOf snap (Some r) × Reaches x (stand r.spot) × IsKnownFor (OfNext y) (Knows m r.known.snap) (IsHeadSeen m r.known.snap) (stand r.spot) r.to) → IfSome c (IsStreamAhead x y snap m)
   ahead_of m None h = tt
   ahead_of m (Some r) h = record { of = h.0; on = h.1; known = h.2 }
 

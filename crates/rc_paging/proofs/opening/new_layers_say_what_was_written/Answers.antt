@@ -69,9 +69,9 @@ returns-clause-seen g c = λ schema below writes later written inner cached m w 
       λ slice at.
           let later_seek = c.a_later_seek_forgets_an_earlier.ensures tables_say x slice.from (subst (λ z. is_le (pos_cmp x z) ≡ true) (sym at) (passes-itself x)) in
           let sought : sought_stream slice.from (merged_stream memtables (sought_stream x tables_say)) ≡ sought_stream slice.from (merged_stream memtables tables_say) =
-              c.a_merge_is_sought_in_both.ensures memtables (sought_stream x tables_say) slice.from in_order sought_order
-              ∙ ap (merged_stream (sought_stream slice.from memtables)) later_seek
-              ∙ sym (c.a_merge_is_sought_in_both.ensures memtables tables_say slice.from in_order (start d.0 d.1).1) in
+          c.a_merge_is_sought_in_both.ensures memtables (sought_stream x tables_say) slice.from in_order sought_order
+          ∙ ap (merged_stream (sought_stream slice.from memtables)) later_seek
+          ∙ sym (c.a_merge_is_sought_in_both.ensures memtables tables_say slice.from in_order (start d.0 d.1).1) in
           ap (λ (z : Stream). compacted_all z.head (until slice.to z.left)) sought
           ∙ ap (λ z. slice_lines slice (merged_stream z tables_say)) same
           ∙ ap (slice_lines slice) (join ab.0 d.0 joined.0 ab.1 d.1 joined.1 joined.2)

@@ -1,13 +1,12 @@
 -- The lines that are left behind those that were passed; and what both calls keep.
-use Rattle.std.proofs.Common.{arith, inl, sym, ap, subst, ◌∙◌, ◌+◌, drop}
+use Rattle.std.proofs.Common.{arith, inl, sym, ap, subst, ◌∙◌, ◌+◌, ◌-◌, drop}
 use Rattle.rc_stream.specs.Did.{has_answer}
 use Rattle.rc_stream.specs.laws.Ordered.{passes-itself}
 use Rattle.rc_reader.specs.Left.{left_after}
 use Rattle.rc_paging.specs.calls.Keeping.{KeptLayers, Three}
-use Rattle.rc_reader.specs.Steps.{GoesNoFurther}
 use Rattle.rc_paging.specs.calls.Keeping.{IsQuiet}
 use Rattle.rc_paging.proofs.Called.{CallLaws, called, kept_then}
-use Rattle.rc_paging.proofs.Quiet.{behind_those, fewer, quiet_then, reads_quiet}
+use Rattle.rc_paging.proofs.Quiet.{fewer, quiet_then, reads_quiet}
 use Rattle.rc_paging.proofs.paging.behind_passed.Goals as goal
 
 pub returns-in-Ok-clause-gives : goal.returns-in-Ok-clause-gives
@@ -58,7 +57,7 @@ returns-in-Ok-clause-quiet g c = λ x y snap far ahead.
     let u : Three = (c.with_behind-gave.new.reader.stream, c.with_behind-gave.new.chains, c.with_behind-gave.new.readings) in
     let first = fewer _ c.args.reader.work (c.args.passed + c.args.count) c.args.passed y (omega arith) far in
     let one = reads_quiet g.row.S laws x y snap (has_answer c.read.result) s t (c.read.ensures.did y first) ahead in
-    let there = subst (λ n. GoesNoFurther _ c.read.new.self.work n y) (behind_those c.args.passed c.args.count) (c.in-Ok.ensures.goes (c.args.passed + c.args.count) y (omega arith) far) in
+    let there = fewer _ c.read.new.self.work (c.args.passed + c.args.count - c.args.passed) c.args.count y (omega arith) (c.in-Ok.ensures.goes (c.args.passed + c.args.count) y (omega arith) far) in
     let two = c.with_behind-gave.ensures.quiet x y snap there (one.1 (ap has_answer c.in-Ok.is)) in
     subst (λ z. IsQuiet s (z, c.with_behind-gave.new.chains, c.with_behind-gave.new.readings)) (sym c.into_stream.ensures) (quiet_then s t u one.0 two)
 

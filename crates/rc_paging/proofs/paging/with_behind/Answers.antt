@@ -1,5 +1,5 @@
 -- The line behind those that are given is the next one that is made; and what the read keeps.
-use Rattle.std.proofs.Common.{inl, sym, ap, ◌∙◌}
+use Rattle.std.proofs.Common.{inl, ◌∙◌}
 use Rattle.rc_stream.specs.Did.{has_answer}
 use Rattle.rc_stream.specs.laws.Ordered.{passes-itself}
 use Rattle.rc_paging.specs.calls.Keeping.{Three}

@@ -1,7 +1,7 @@
 -- Each form leaves its own lines.
-use Rattle.rc_paging.specs.Pages.{IsKnownWhole}
+use Rattle.rc_paging.specs.Pages.{IsPageKnown}
 use Rattle.rc_paging.specs.Remainders.{IsRemainderOf}
-use Rattle.rc_paging.proofs.OfForms.{cached_of, past_refused}
+use Rattle.rc_paging.proofs.OfForms.{cached_by, cached_of, past_refused}
 use Rattle.rc_paging.proofs.forms.PartReader.read.Goals as goal
 
 pub returns-clause-left : goal.returns-clause-left
@@ -12,4 +12,5 @@ pub returns-in-Cached-clause-of : goal.returns-in-Cached-clause-of
 returns-in-Cached-clause-of g c = λ slice is. c.read.ensures.of slice (cached_of (λ o. IsRemainderOf slice o.remainder) c.args.self.now c.in-Cached.reader c.in-Cached.is is)
 
 pub returns-in-Cached-clause-known : goal.returns-in-Cached-clause-known
-returns-in-Cached-clause-known g c = λ known. c.read.ensures.known (cached_of (λ o. IsKnownWhole c.args.chains.now o.held.cached) c.args.self.now c.in-Cached.reader c.in-Cached.is known)
+returns-in-Cached-clause-known g c = λ below lines l say known.
+    c.read.ensures.known below lines (cached_by _ _ c.args.self.now c.in-Cached.reader c.in-Cached.is l) say (cached_of (λ o. IsPageKnown c.args.chains.now o c.args.count lines) c.args.self.now c.in-Cached.reader c.in-Cached.is known)

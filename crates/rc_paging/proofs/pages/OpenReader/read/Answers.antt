@@ -1,8 +1,10 @@
 -- The lines are those of the answer behind the ones that were given before.
 use Rattle.std.proofs.Common.{◌≡◌, ◌++◌, arith, refl, length, take, drop, sym, ap, subst, ◌∙◌}
-use Rattle.std.specs.Prelude.{IfOk, nat_lt}
+use Rattle.std.specs.Prelude.{IfErr, IfOk, IfSome, nat_lt}
+use Rattle.rc_paging.specs.declared.layers.HeldSnaps.{HeldSnaps}
+use Rattle.rc_paging.specs.declared.pages.PageErr.TheVariants.{NoMemory}
 use Rattle.rc_query.specs.Answer.{answer}
-use Rattle.rc_paging.specs.Pages.{StandFor}
+use Rattle.rc_paging.specs.Pages.{IsStretchKnown, StandFor, page_end}
 use Rattle.rc_paging.specs.Remainders.{given_before}
 use Rattle.rc_paging.specs.calls.Remainders.{after_lines}
 use Rattle.rc_paging.proofs.OfSlices.{same_of, still_of}
@@ -55,3 +57,11 @@ returns-in-Ok-go_behind-clause-of g c = λ slice is.
 
 pub returns-in-Err-go_behind-clause-of : goal.returns-in-Err-go_behind-clause-of
 returns-in-Err-go_behind-clause-of g c = λ slice is. same_of slice c.args.self.now.remainder c.go_behind.new.self c.in-Err-go_behind.ensures.err is
+
+pub returns-in-Err-clause-known : goal.returns-in-Err-clause-known
+returns-in-Err-clause-known g c = λ below lines l say known.
+    let stood = subst (λ h. StandFor g.row.S c.args.chains.now h below l.writes l.later) (sym c.take_out-held.ensures.taken) l.stand in
+    let slice = c.args.self.now.remainder.slice in
+    let there = subst (λ ls. IfSome c.args.self.now.held.cached (IsStretchKnown c.args.chains.now slice.from (page_end (drop c.args.count ls) slice))) l.are known in
+    let e = c.serve-gave.ensures.known l.schema below l.writes l.later l.of_tables l.of_sealed l.of_active stood say (subst (λ (h : HeldSnaps). IfSome h.cached (IsStretchKnown c.args.chains.now slice.from (page_end (drop c.args.count (drop (given_before c.args.self.now.remainder) (answer (below ++ (l.writes ++ l.later)) slice))) slice))) (sym c.take_out-held.ensures.taken) there) in
+    subst (λ r. IfErr r (λ x. x ≡ NoMemory)) c.in-Err.is e
