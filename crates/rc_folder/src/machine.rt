@@ -58,7 +58,8 @@ pub trait Machine: Sized {
         ensures { result.now ≡ (folder self.now).schema };
 
     /// Takes the step of a command that fits the schema and is one of those that are built, and gives its reply, which may be a refusal;
-    /// what it tells of itself goes on from there. The only error is want of memory, which leaves the state as it was, but that a flush may have sealed the writes.
+    /// what it tells of itself goes on from there. The only error is want of memory, which leaves the state as it was, but that a flush may
+    /// have sealed the writes, and a read may have told its reader anew what the tables say.
     fn serve<W: Store>(
         &mut self,
         alloc: Global,

@@ -61,6 +61,14 @@ reader-at id at d [] p here = absurd p
 reader-at id zero d (o ∷ os) p here = ap (λ b. cond b (Some o.1) (lookup (λ q. q == id) os)) p ∙ ap (λ (x : ℕ × PartitionReader). Some x.1) here
 reader-at id (suc at) d (o ∷ os) p here = ap (λ b. cond b (Some o.1) (lookup (λ q. q == id) os)) p.0 ∙ reader-at id at d os p.1 here
 
+-- what is there, where something is
+from_some : {T : Type 0} → T → Option T → T
+from_some d None = d
+from_some d (Some x) = x
+
+pub same-some : {T : Type 0} (x y : T) (o : Option T) → o ≡ Some x → o ≡ Some y → x ≡ y
+same-some x y o e f = ap (from_some x) (sym e ∙ f)
+
 -- the rows of lines that the reader at a place gave are the most recent ones, behind what it left
 pub touched-as-given : (id at : ℕ) (d : ℕ × PartitionReader) (lines : List OutLine) (k k' : Shard) (mid : Memory) → IsPlace id k.readers.items at → get_or k.readers.items at d ≡ d → IsGonePast (cached_of d.1) k.unstored.chains mid → k'.cache ≡ k.cache →
     AreTouched (IsEntryOfGiven (entry_number k.cache.entries d.1.key) lines) mid k'.unstored.chains → IfSome (lookup (λ q. q == id) k.readers.items) (λ o. IsReaderTouched lines o k k')

@@ -3,7 +3,8 @@
 --     IsChainWhere, IsCachedWhere    of the chain of a partition something holds
 --     IsCachedAt, IsStaticCached     a position is known, or the static row
 --     OnOpened               what holds of an opening's key, where a reader was opened
---     AsksNothingWhereKnown  a partition that is known is opened and read without asking the store
+--     IsReadCached           what a read passes is known to its reader's snapshot
+--     AsksNothingWhereKnown  what is known is opened and read without asking the store
 --     IsKnownOnceOpened      a partition that was opened is known
 --     IsPartitionRecent      its objects are the most recent ones
 --     IsRecentOnceHit        so they are once it was opened, where it was known before
@@ -12,7 +13,7 @@
 --     IsTouchedAsGiven   so those are that a read gives
 --     IsUnwritten, IsPartitionListed, Spares    a partition that no memtable has; one of which something could be evicted; which partitions a command leaves
 --     IsKnownStill, StaysKnown    what is known stays known
-use Rattle.std.specs.Prelude.{◌≡◌, ◌==◌, ◌⊎◌, ℕ, IfSome, IsSomeAnd, IsTrue, List, None, Option, ⊤}
+use Rattle.std.specs.Prelude.{◌≡◌, ◌==◌, ◌⊎◌, ℕ, IfSome, IsSomeAnd, IsTrue, List, None, Option, Some, ⊤}
 use Rattle.std.specs.Map.{lookup}
 use Rattle.rc_position.specs.declared.positions.Pos.{Pos}
 use Rattle.rc_core.specs.Chain.{has_flag}
@@ -35,7 +36,9 @@ use Rattle.rc_lookup.specs.Known.{IsChainKnown}
 use Rattle.rc_lookup.specs.Touched.{AreTouched, IsEntryOfGiven, IsMadeRecent}
 use Rattle.rc_lookup.specs.Writes.{chain_of}
 use Rattle.rc_chain.specs.declared.chains.Snap.{Snap}
-use Rattle.rc_paging.specs.Pages.{IsKnownWhole}
+use Rattle.rc_paging.specs.Forms.{ByForm}
+use Rattle.rc_paging.specs.Pages.{IsPageKnown}
+use Rattle.rc_machine.specs.State.{Reader, State, reader_of, rest_of}
 use Rattle.rc_shard.specs.declared.readers.PartitionReader.{PartitionReader}
 use Rattle.rc_shard.specs.Readers.{cached_of}
 use Rattle.rc_shard.specs.Releasing.{IsCachedReleased, IsChainListed}
@@ -66,11 +69,15 @@ abbrev pub OnOpened : Command → Reply → (List ℕ → Type 0) → Type 0
 OnOpened (OpenRead id key slice) Fine P = P key
 OnOpened command reply P = ⊤
 
--- A cache hit: where the row cache knows all of a partition, opening a reader of it asks the store for nothing, whatever the reply; and so does a read of a reader to whose snapshot of the row cache all of its partition is known, or that reads past the cache.
-abbrev pub AsksNothingWhereKnown : Command → Shard → (before now : ℕ) → Type 0
-AsksNothingWhereKnown (OpenRead id key slice) k before now = IsCachedWhole k key → now ≡ before
-AsksNothingWhereKnown (Read id count) k before now = IfSome (lookup (λ q. q == id) k.readers.items) (λ o. IsKnownWhole k.unstored.chains (cached_of o) → now ≡ before)
-AsksNothingWhereKnown command k before now = ⊤
+-- to the snapshot that an open reader holds of the row cache all is known that a read of so many lines passes of what is left to the machine's; or it reads past the row cache
+abbrev pub IsReadCached : Shard → ℕ → PartitionReader → Reader → Type 0
+IsReadCached k count o r = ByForm (λ c. IsPageKnown k.unstored.chains c count (rest_of r)) (λ _. ⊤) o.reader
+
+-- A cache hit: where the row cache knows all of a partition, opening a reader of it asks the store for nothing, whatever the reply; and so does a read to whose reader's snapshot of the row cache all is known from the reader's place up to right behind the row of the first line that is left after it, or to the slice's end, and the static row.
+abbrev pub AsksNothingWhereKnown : State → Command → Shard → (before now : ℕ) → Type 0
+AsksNothingWhereKnown m (OpenRead id key slice) k before now = IsCachedWhole k key → now ≡ before
+AsksNothingWhereKnown m (Read id count) k before now = (o : PartitionReader) (r : Reader) → lookup (λ q. q == id) k.readers.items ≡ Some o → reader_of id m ≡ Some r → IsReadCached k count o r → now ≡ before
+AsksNothingWhereKnown m command k before now = ⊤
 
 -- Once a reader of a partition is opened the row cache knows all of the partition, also what no table holds of it, unless memory was too small for that meanwhile: something of the cache was evicted, or not taken in.
 abbrev pub IsKnownOnceOpened : Command → Reply → Shard → Shard → Type 0

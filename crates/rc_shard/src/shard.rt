@@ -15,12 +15,11 @@ ghost use Rattle.rc_lookup.specs.Crowding.{LosesWhereCrowded};
 ghost use Rattle.rc_lookup.specs.Fillers.{losses};
 ghost use Rattle.rc_lookup.specs.Found.{entry_number};
 ghost use Rattle.rc_lookup.specs.Touched.{AreTouched, IsEntryOfGiven};
-ghost use Rattle.rc_paging.specs.Pages.{IsKnownWhole};
 ghost use Rattle.rc_tables.specs.Tables.{IsDamageOf, listing};
 ghost use Rattle.rc_lines.specs.Fits.{CommandFits};
 ghost use Rattle.rc_machine.specs.Built.{is_built};
 ghost use Rattle.rc_machine.specs.Serving.{FaultsAreCounted, OnFaulty, Stops, Takes, checks_of, most_asks};
-ghost use Rattle.rc_machine.specs.State.{State, Table, opened_state};
+ghost use Rattle.rc_machine.specs.State.{Reader, State, Table, opened_state, reader_of};
 ghost use Rattle.rc_machine.specs.Tables.{AreListed, AreTables};
 ghost use Rattle.rc_machine.specs.Steps.{IsSaid, reader_with};
 ghost use Rattle.rc_tfile.specs.declared.info.TableInfo.{TableInfo};
@@ -31,7 +30,7 @@ ghost use Rattle.rc_shard.specs.Counting.{figures_of};
 ghost use Rattle.rc_shard.specs.Compacting.{IsCompactedAsTold};
 ghost use Rattle.rc_shard.specs.Evicting.{IsEvictedAsTold, IsLostAsTold};
 ghost use Rattle.rc_shard.specs.Losing.{IsLostInCrowd, LosesForWrite, LosesInCrowd};
-ghost use Rattle.rc_shard.specs.Knowing.{AsksNothingWhereKnown, IsCachedWhole, IsKnownOnceOpened, IsKnownStill, IsPartitionRecent, IsRecentOnceHit, IsTouchedAsGiven, StaysKnown};
+ghost use Rattle.rc_shard.specs.Knowing.{AsksNothingWhereKnown, IsCachedWhole, IsKnownOnceOpened, IsReadCached, IsKnownStill, IsPartitionRecent, IsRecentOnceHit, IsTouchedAsGiven, StaysKnown};
 ghost use Rattle.rc_shard.specs.Opening.{IsOpenedAsTold};
 ghost use Rattle.rc_shard.specs.Readers.{cached_of, number_of_snaps};
 ghost use Rattle.rc_shard.specs.Stands.{IsFullAsTold, StandsBeside};
@@ -149,7 +148,8 @@ impl Machine for Shard {
     }
 
     /// Takes the step of a command that fits the schema and is one of those that are built, and gives its reply, which may be a refusal.
-    /// The only error is want of memory, which leaves the machine's state as it was, but that a flush may have sealed the writes.
+    /// The only error is want of memory, which leaves the machine's state as it was, but that a flush may have sealed the writes, and a read
+    /// may have told its reader anew what the tables say.
     fn serve<W: Store>(
         &mut self,
         alloc: Global,
@@ -165,7 +165,7 @@ impl Machine for Shard {
         ensures asks { (m : State) → ⟦<Shard as Machine>⟧.stands (W.files store.old) self.old m → W.asks store.new ≤ W.asks store.old + most_asks m command.now }
         ensures full { IfOk result (λ reply. IsFullAsTold command.now reply self.old.folder.schema self.new.unstored) }
         ensures pins { IfOk result (λ reply. IsOpenedAsTold command.now reply self.old.readers.items self.old.unstored self.new.readers.items self.new.unstored) }
-        ensures known { AsksNothingWhereKnown command.now self.old (W.asks store.old) (W.asks store.new) }
+        ensures known { (m : State) → ⟦<Shard as Machine>⟧.stands (W.files store.old) self.old m → AsksNothingWhereKnown m command.now self.old (W.asks store.old) (W.asks store.new) }
         ensures filled { IfOk result (λ reply. IsKnownOnceOpened command.now reply self.old self.new) }
         ensures recent { IfOk result (λ reply. IsRecentOnceHit command.now reply self.old self.new) }
         ensures touches { IfOk result (λ reply. IsTouchedAsGiven command.now reply self.old self.new) }
@@ -242,7 +242,7 @@ impl Shard {
         ensures asks { (m : State) → ⟦<Shard as Machine>⟧.stands (W.files store.old) self.old m → W.asks store.new ≤ W.asks store.old + most_asks m command.now }
         ensures full { IfOk result (λ reply. IsFullAsTold command.now reply self.old.folder.schema self.new.unstored) }
         ensures pins { IfOk result (λ reply. IsOpenedAsTold command.now reply self.old.readers.items self.old.unstored self.new.readers.items self.new.unstored) }
-        ensures known { AsksNothingWhereKnown command.now self.old (W.asks store.old) (W.asks store.new) }
+        ensures known { (m : State) → ⟦<Shard as Machine>⟧.stands (W.files store.old) self.old m → AsksNothingWhereKnown m command.now self.old (W.asks store.old) (W.asks store.new) }
         ensures filled { IfOk result (λ reply. IsKnownOnceOpened command.now reply self.old self.new) }
         ensures recent { IfOk result (λ reply. IsRecentOnceHit command.now reply self.old self.new) }
         ensures touches { IfOk result (λ reply. IsTouchedAsGiven command.now reply self.old self.new) }
@@ -506,7 +506,7 @@ impl Shard {
         ensures err { OnErr result (Stops ⟦<Shard as Machine>⟧.stands (W.files store.old) self.old (Command.Read id count) (W.files store.new) self.new) }
         ensures faults { FaultsAreCounted result (W.faults store.old) (W.faults store.new) }
         ensures asks { (m : State) → ⟦<Shard as Machine>⟧.stands (W.files store.old) self.old m → W.asks store.new ≤ W.asks store.old + most_asks m (Command.Read id count) }
-        ensures known { AsksNothingWhereKnown (Command.Read id count) self.old (W.asks store.old) (W.asks store.new) }
+        ensures known { (m : State) → ⟦<Shard as Machine>⟧.stands (W.files store.old) self.old m → AsksNothingWhereKnown m (Command.Read id count) self.old (W.asks store.old) (W.asks store.new) }
         ensures same { self.new.unstored.chains.counts ≡ self.old.unstored.chains.counts }
         ensures stays { StaysKnown (Command.Read id count) self.old self.new }
         ensures touches { IfOk result (λ reply. IsTouchedAsGiven (Command.Read id count) reply self.old self.new) }
@@ -528,7 +528,7 @@ impl Shard {
         requires { (id : ℕ) × (files : Option Files) × (m : State) × ⟦<Shard as Machine>⟧.stands files self.old m × (position (λ reader. reader.0 == id) self.old.readers.items ≡ Some at) }
         ensures gives { (id : ℕ) (files : Option Files) (m : State) → ⟦<Shard as Machine>⟧.stands files self.old m → position (λ reader. reader.0 == id) self.old.readers.items ≡ Some at → IfOk result (λ gave. IsPaged ⟦<Shard as Machine>⟧.stands files id count m gave self.new) }
         ensures err { OnErr result (StandsForTheSame ⟦<Shard as Machine>⟧.stands self.old self.new) }
-        ensures missing { (o : ℕ × PartitionReader) → get_or self.old.readers.items at o ≡ o → IfErr result (λ e. e ≡ PageErr.Missing → (IsSome (cached_of o.1)) × (IsKnownWhole self.old.unstored.chains (cached_of o.1) → ⊥)) }
+        ensures known { (id : ℕ) (files : Option Files) (m : State) (o : ℕ × PartitionReader) (r : Reader) → ⟦<Shard as Machine>⟧.stands files self.old m → position (λ reader. reader.0 == id) self.old.readers.items ≡ Some at → get_or self.old.readers.items at o ≡ o → reader_of id m ≡ Some r → IsReadCached self.old count o.1 r → IfErr result (λ e. e ≡ PageErr.NoMemory) }
         ensures beside { IsPagedBeside at self.old self.new }
     {
         a_reader_stays();

@@ -1,14 +1,16 @@
 -- A reader gives a page: nothing is handed in, so the chains are as they were.
-use Rattle.std.proofs.Common.{◌≡◌, ℕ, refl, sym, ap, arith}
+use Rattle.std.proofs.Common.{◌≡◌, ℕ, refl, sym, ap, subst, arith}
 use Rattle.std.specs.Vec.{with_item}
 use Rattle.rc_memory.specs.Memory.{Memory}
 use Rattle.rc_lookup.specs.Memtables.{in_chains}
-use Rattle.rc_machine.specs.State.{rest_of}
+use Rattle.rc_machine.specs.State.{Reader, rest_of}
 use Rattle.rc_shard.specs.declared.readers.PartitionReader.{PartitionReader}
 use Rattle.rc_shard.specs.declared.shard.Shard.{Shard}
+use Rattle.rc_shard.specs.Knowing.{IsReadCached}
 use Rattle.rc_shard.specs.Readers.{cached_of, lies_below}
 use Rattle.rc_shard.proofs.Paged.{if-paged, on-unpaged, paged-beside}
 use Rattle.rc_shard.proofs.Places.{place-of}
+use Rattle.rc_shard.proofs.Rereading.{reader-at, same-some}
 use Rattle.rc_shard.proofs.Standing.{lines-same}
 use Rattle.rc_shard.proofs.Taking.{found-at}
 use Rattle.rc_shard.proofs.shard.Shard.page.Goals as goal
@@ -54,3 +56,14 @@ returns-clause-beside c =
     let x : ℕ × PartitionReader = (d.0, record (d.1) { reader = c.read.new.self }) in
     let new : Shard = record k { unstored = in_chains c.read.new.chains k.unstored; readers = with_item k.readers c.args.at x } in
     paged-beside k new q.0 c.args.at d x (place-of q.0 k.readers.items c.args.at q.4) (sym c.index_mut.ensures.value) refl refl refl refl c.read.ensures.held (ap (λ (n : Memory). in_chains n k.unstored) (c.read.ensures.unread refl)) refl refl refl refl refl
+
+pub returns-clause-known : goal.returns-clause-known
+returns-clause-known c = λ id files m o r s place here open known.
+    let k = c.args.self.now in
+    let d : ℕ × PartitionReader = c.index_mut.result.now in
+    let p = place-of id k.readers.items c.args.at place in
+    let there = sym c.index_mut.ensures.value in
+    let f = found-at _ files k m id c.args.at d s p there in
+    let reader = same-some o.1 d.1 _ (reader-at id c.args.at o k.readers.items p here) (reader-at id c.args.at d k.readers.items p there) in
+    let machine = same-some r f.reader _ open f.found in
+    c.read.ensures.known (lies_below s.cached.below (cached_of d.1)) (rest_of f.reader) f.served.left tt (subst (λ (q : PartitionReader × Reader). IsReadCached k c.args.count q.0 q.1) (λ i. (reader i, machine i)) known)

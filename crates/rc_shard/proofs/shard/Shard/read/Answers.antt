@@ -1,15 +1,14 @@
 -- The reader's place is that of its id; it gives a page, or goes on past the row cache.
 use Rattle.std.proofs.Common.{◌≡◌, ◌==◌, ℕ, List, Option, Some, None, position, refl, sym, ap, ◌∙◌, subst}
-use Rattle.std.specs.Prelude.{IfSome}
-use Rattle.rc_paging.specs.Pages.{IsKnownWhole}
+use Rattle.rc_paging.specs.declared.pages.PageErr.TheVariants.{Missing, NoMemory}
 use Rattle.rc_lines.specs.declared.commands.Reply.TheVariants.{Given}
 use Rattle.rc_machine.specs.Steps.{reader_past}
 use Rattle.rc_shard.specs.declared.readers.PartitionReader.{PartitionReader}
-use Rattle.rc_shard.specs.Readers.{cached_of}
+use Rattle.rc_shard.specs.Knowing.{IsReadCached}
 use Rattle.rc_shard.specs.calls.Reading.{with_reader}
 use Rattle.rc_shard.proofs.Given.{counts-after, given-counts, given-of, is-there, paged-kept, paged-place, reader-in, stays-behind, stays-given, stops-behind, stops-same, takes-behind, takes-told, touches-behind, touches-given, untold-counts, untold-of}
 use Rattle.rc_shard.proofs.Places.{nowhere-of, place-of}
-use Rattle.rc_shard.proofs.Rereading.{reader-at}
+use Rattle.rc_shard.proofs.Rereading.{reader-at, same-some}
 use Rattle.rc_shard.proofs.Standing.{if-ok-weaker, on-err-weaker}
 use Rattle.rc_shard.proofs.Taking.{takes-no-read, takes-paged}
 use Rattle.rc_shard.proofs.shard.Shard.read.Goals as goal
@@ -108,13 +107,14 @@ returns-in-Err-Missing-clause-asks g c = λ m s.
     c.read_past.ensures.asks c.args.id m (paged-place k mid c.args.id c.in-Some.at c.page.ensures.beside place) (c.in-Err-Missing.ensures.err (g.W.Store.files c.args.store.now) m s)
 
 pub returns-in-Err-Missing-clause-known : goal.returns-in-Err-Missing-clause-known
-returns-in-Err-Missing-clause-known g c =
+returns-in-Err-Missing-clause-known g c = λ m s o r here open known.
     let k = c.args.self.now in
     let place = subst (λ (os : List (ℕ × PartitionReader)). position (λ reader. reader.0 == c.args.id) os ≡ Some c.in-Some.at) c.as_slice.ensures.value (sym c.in-Some.ensures) in
     let d = reader-in k c.args.id c.in-Some.at place in
-    let here = is-there k c.args.id c.in-Some.at place in
-    subst (λ (o : Option PartitionReader). IfSome o (λ x. IsKnownWhole k.unstored.chains (cached_of x) → g.W.Store.asks c.read_past.new.store ≡ g.W.Store.asks c.args.store.now)) (sym (reader-at c.args.id c.in-Some.at d k.readers.items (place-of c.args.id k.readers.items c.in-Some.at place) here))
-    (λ whole. absurd ((c.in-Err-Missing.ensures.missing d here c.in-Err-Missing.field-0-is).1 whole))
+    let there = is-there k c.args.id c.in-Some.at place in
+    let reader = same-some o d.1 _ here (reader-at c.args.id c.in-Some.at d k.readers.items (place-of c.args.id k.readers.items c.in-Some.at place) there) in
+    let none : Missing ≡ NoMemory = sym c.in-Err-Missing.field-0-is ∙ c.in-Err-Missing.ensures.known c.args.id (g.W.Store.files c.args.store.now) m d r s place there open (subst (λ x. IsReadCached k c.args.count x r) reader known) in
+    absurd (cc)
 
 pub returns-in-Err-Missing-clause-stays : goal.returns-in-Err-Missing-clause-stays
 returns-in-Err-Missing-clause-stays g c = stays-behind c.args.id c.args.count c.args.self.now c.page.new.self c.read_past.new.self (untold-of c.in-Some.at c.args.self.now c.page.new.self c.page.ensures.beside) (c.read_past.ensures.stays c.args.id)

@@ -94,7 +94,7 @@ pub returns-in-Flush-clause-pins : goal.returns-in-Flush-clause-pins
 returns-in-Flush-clause-pins g c = rw (c.in-Flush.is) (if-ok-all c.flush.result _ (λ reply. tt))
 
 pub returns-in-Put-clause-known : goal.returns-in-Put-clause-known
-returns-in-Put-clause-known g c = rw (c.in-Put.is) tt
+returns-in-Put-clause-known g c = rw (c.in-Put.is) (λ m s. tt)
 
 pub returns-in-Put-clause-filled : goal.returns-in-Put-clause-filled
 returns-in-Put-clause-filled g c = rw (c.in-Put.is) (if-ok-all c.put.result _ (λ reply. tt))
@@ -106,13 +106,13 @@ pub returns-in-Read-clause-filled : goal.returns-in-Read-clause-filled
 returns-in-Read-clause-filled g c = rw (c.in-Read.is) (if-ok-all c.read.result _ (λ reply. tt))
 
 pub returns-in-Flush-clause-known : goal.returns-in-Flush-clause-known
-returns-in-Flush-clause-known g c = rw (c.in-Flush.is) tt
+returns-in-Flush-clause-known g c = rw (c.in-Flush.is) (λ m s. tt)
 
 pub returns-in-Flush-clause-filled : goal.returns-in-Flush-clause-filled
 returns-in-Flush-clause-filled g c = rw (c.in-Flush.is) (if-ok-all c.flush.result _ (λ reply. tt))
 
 pub returns-in-OpenRead-clause-known : goal.returns-in-OpenRead-clause-known
-returns-in-OpenRead-clause-known g c = rw (c.in-OpenRead.is) (λ whole. c.open_read.ensures.known whole)
+returns-in-OpenRead-clause-known g c = rw (c.in-OpenRead.is) (λ m s whole. c.open_read.ensures.known whole)
 
 pub returns-in-OpenRead-clause-filled : goal.returns-in-OpenRead-clause-filled
 returns-in-OpenRead-clause-filled g c = rw (c.in-OpenRead.is) c.open_read.ensures.filled
