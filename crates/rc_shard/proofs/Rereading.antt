@@ -1,5 +1,5 @@
 -- What is read stays: what is left where the rows that were given became the most recent ones.
-use Rattle.std.proofs.Common.{◌≡◌, ◌==◌, ℕ, zero, suc, cond, List, ◌∷◌, [], get_or, Option, Some, refl, sym, ap, subst, ◌∙◌, arith}
+use Rattle.std.proofs.Common.{◌≡◌, ◌==◌, ℕ, zero, suc, cond, List, ◌∷◌, [], get_or, Option, Some, None, refl, sym, ap, subst, ◌∙◌, arith}
 use Rattle.std.specs.Prelude.{IfSome}
 use Rattle.std.specs.Map.{lookup}
 use Rattle.rc_schema.specs.SchemaValue.{SchemaValue}
@@ -62,7 +62,7 @@ reader-at id zero d (o ∷ os) p here = ap (λ b. cond b (Some o.1) (lookup (λ 
 reader-at id (suc at) d (o ∷ os) p here = ap (λ b. cond b (Some o.1) (lookup (λ q. q == id) os)) p.0 ∙ reader-at id at d os p.1 here
 
 -- what is there, where something is
-from_some : {T : Type 0} → T → Option T → T
+abbrev from_some : {T : Type 0} → T → Option T → T
 from_some d None = d
 from_some d (Some x) = x
 

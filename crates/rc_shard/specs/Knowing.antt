@@ -112,7 +112,7 @@ pub record IsUnwritten (k : Shard) (key : List ℕ) : Type 0 where
   pub sealed : chain_of k.unstored.sealed key ≡ None
   pub active : chain_of k.unstored.active key ≡ None
 
--- something of the chain of a partition could be evicted; of others no position is known
+-- something of the chain of a partition could be evicted
 abbrev pub IsPartitionListed : Shard → List ℕ → Type 0
 IsPartitionListed k key = IsSomeAnd (entry_number k.cache.entries key) (IsChainListed k.unstored.chains)
 

@@ -58,12 +58,12 @@ returns-clause-beside c =
     paged-beside k new q.0 c.args.at d x (place-of q.0 k.readers.items c.args.at q.4) (sym c.index_mut.ensures.value) refl refl refl refl c.read.ensures.held (ap (λ (n : Memory). in_chains n k.unstored) (c.read.ensures.unread refl)) refl refl refl refl refl
 
 pub returns-clause-known : goal.returns-clause-known
-returns-clause-known c = λ id files m o r s place here open known.
+returns-clause-known c = λ id files m o r s place here entry known.
     let k = c.args.self.now in
     let d : ℕ × PartitionReader = c.index_mut.result.now in
     let p = place-of id k.readers.items c.args.at place in
     let there = sym c.index_mut.ensures.value in
     let f = found-at _ files k m id c.args.at d s p there in
     let reader = same-some o.1 d.1 _ (reader-at id c.args.at o k.readers.items p here) (reader-at id c.args.at d k.readers.items p there) in
-    let machine = same-some r f.reader _ open f.found in
+    let machine = same-some r f.reader _ entry f.found in
     c.read.ensures.known (lies_below s.cached.below (cached_of d.1)) (rest_of f.reader) f.served.left tt (subst (λ (q : PartitionReader × Reader). IsReadCached k c.args.count q.0 q.1) (λ i. (reader i, machine i)) known)

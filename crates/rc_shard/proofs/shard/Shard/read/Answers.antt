@@ -1,5 +1,5 @@
 -- The reader's place is that of its id; it gives a page, or goes on past the row cache.
-use Rattle.std.proofs.Common.{◌≡◌, ◌==◌, ℕ, List, Option, Some, None, position, refl, sym, ap, ◌∙◌, subst}
+use Rattle.std.proofs.Common.{◌≡◌, ◌==◌, ℕ, List, Some, None, position, refl, sym, ap, ◌∙◌, subst}
 use Rattle.rc_paging.specs.declared.pages.PageErr.TheVariants.{Missing, NoMemory}
 use Rattle.rc_lines.specs.declared.commands.Reply.TheVariants.{Given}
 use Rattle.rc_machine.specs.Steps.{reader_past}
@@ -107,13 +107,13 @@ returns-in-Err-Missing-clause-asks g c = λ m s.
     c.read_past.ensures.asks c.args.id m (paged-place k mid c.args.id c.in-Some.at c.page.ensures.beside place) (c.in-Err-Missing.ensures.err (g.W.Store.files c.args.store.now) m s)
 
 pub returns-in-Err-Missing-clause-known : goal.returns-in-Err-Missing-clause-known
-returns-in-Err-Missing-clause-known g c = λ m s o r here open known.
+returns-in-Err-Missing-clause-known g c = λ m s o r here entry known.
     let k = c.args.self.now in
     let place = subst (λ (os : List (ℕ × PartitionReader)). position (λ reader. reader.0 == c.args.id) os ≡ Some c.in-Some.at) c.as_slice.ensures.value (sym c.in-Some.ensures) in
     let d = reader-in k c.args.id c.in-Some.at place in
     let there = is-there k c.args.id c.in-Some.at place in
     let reader = same-some o d.1 _ here (reader-at c.args.id c.in-Some.at d k.readers.items (place-of c.args.id k.readers.items c.in-Some.at place) there) in
-    let none : Missing ≡ NoMemory = sym c.in-Err-Missing.field-0-is ∙ c.in-Err-Missing.ensures.known c.args.id (g.W.Store.files c.args.store.now) m d r s place there open (subst (λ x. IsReadCached k c.args.count x r) reader known) in
+    let none : Missing ≡ NoMemory = sym c.in-Err-Missing.field-0-is ∙ c.in-Err-Missing.ensures.known c.args.id (g.W.Store.files c.args.store.now) m d r s place there entry (subst (λ x. IsReadCached k c.args.count x r) reader known) in
     absurd (cc)
 
 pub returns-in-Err-Missing-clause-stays : goal.returns-in-Err-Missing-clause-stays
