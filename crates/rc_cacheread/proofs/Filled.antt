@@ -9,7 +9,8 @@ use Rattle.rc_cacheread.specs.Did.{ReaderFilled}
 use Rattle.rc_cacheread.specs.Passing.{IsKnownOver}
 use Rattle.rc_cacheread.specs.Sharing.{Fit, Kept, OfBelow, OfFiller, OfKnown, Shares, StillStands}
 use Rattle.rc_cacheread.proofs.Leaving.{FillsLeft, KnownLeft, fills-left}
-use Rattle.rc_cacheread.proofs.Passed.{between, over-ends, over-over, over-still}
+use Rattle.rc_cacheread.specs.laws.Passing.{over-over}
+use Rattle.rc_cacheread.proofs.Passed.{between, over-ends, over-still}
 
 module _ {K P H : Type 0} (kn : OfKnown K H) (fi : OfFiller P H) where
   pub filled-still : (k : K) (p : P) (h : H) (A : Type 0) → A → ReaderFilled kn fi k p h k p h A

@@ -27,7 +27,8 @@ use Rattle.rc_cacheread.specs.Spots.{again_due, past_row, change_place, due_chan
 use Rattle.rc_cacheread.specs.calls.Spots.{HasNothingDue}
 use Rattle.rc_cacheread.proofs.Idle.{idle-front, idle-stand}
 use Rattle.rc_cacheread.proofs.Lists.{behind-its-row, change_if, same-tombs, untrue}
-use Rattle.rc_cacheread.proofs.Orders.{before-reach, before-reaches, near-is, near-on, near-row, near-within, never-before, reach-itself, reach-through, same-place}
+use Rattle.rc_cacheread.specs.laws.Orders.{before-reaches, never-before, reach-through, same-place}
+use Rattle.rc_cacheread.proofs.Orders.{before-reach, near-is, near-on, near-row, near-within, reach-itself}
 use Rattle.rc_cacheread.proofs.Outcomes.{Outcome, before-outcome, change-before, change-here, change-outcome, empty-here, empty-outcome, end-outcome, none-here, other-here, outcome-at, row-before, row-here, row-outcome, upto-outcome}
 use Rattle.rc_cacheread.proofs.Streams.{first-change, first-row, nothing-says}
 

@@ -26,7 +26,8 @@ use Rattle.rc_stream.specs.laws.Ordered.{irreflexive, itself, stop}
 use Rattle.rc_stream.specs.laws.Says.{force-onward, force-opening, rows-onward, rows-opening}
 use Rattle.rc_stream.specs.laws.Sought.{onward-ordered, sought-ordered, sought-telling}
 use Rattle.rc_cacheread.specs.Reading.{AreWritten, AreRowsApart, Reads, StandFrom, behind_row, row_of_these, said_at}
-use Rattle.rc_cacheread.proofs.Orders.{before-reach, before-reaches, either-way, never-before, not-le, reach-before, reach-itself, reach-through, same-place, turned-before}
+use Rattle.rc_cacheread.specs.laws.Orders.{before-reaches, either-way, never-before, reach-through, same-place, turned-before}
+use Rattle.rc_cacheread.proofs.Orders.{before-reach, not-le, reach-before, reach-itself}
 
 -- ---- tombstones
 

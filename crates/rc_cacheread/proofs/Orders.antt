@@ -1,5 +1,5 @@
 -- The order of positions.
-use Rattle.std.specs.Prelude.{◌≡◌, ◌⊎◌, true, false, cond}
+use Rattle.std.specs.Prelude.{◌≡◌, true, false, cond}
 use Rattle.std.proofs.Common.{refl, sym, ap, ◌∙◌, subst, inl, inr}
 use Rattle.std.specs.declared.cmp.Ordering.TheVariants.{Less, Equal, Greater}
 use Rattle.std.specs.Ordering.{is_eq, is_gt, is_le, is_lt, ordering_reverse}
@@ -16,13 +16,10 @@ use Rattle.rc_cacheread.specs.calls.Below.{last_before, near_of}
 use Rattle.rc_position.specs.laws.Orders.{comp_cmp_total, pos_cmp_total, pos_cmp_same}
 use Rattle.rc_stream.specs.Places.{Reaches}
 use Rattle.rc_stream.specs.laws.Ordered.{passes-itself}
-use Rattle.rc_stream.specs.laws.Says.{le_le}
+use Rattle.rc_cacheread.specs.laws.Orders.{either-way, greater-before, reach-through, same-place}
 
 pub reach-itself : (x : Pos) → Reaches x x
 reach-itself x = passes-itself x
-
-pub reach-through : (x y z : Pos) → Reaches x y → Reaches y z → Reaches x z
-reach-through x y z a b = le_le x y z (pos_cmp x y) (pos_cmp y z) refl refl a b
 
 pub before-reach : (x y : Pos) → IsBefore x y → Reaches x y
 before-reach x y e = ap is_le e
@@ -34,39 +31,6 @@ reach-before x y z h b =
       | Equal ↦ λ e k. subst (λ p. IsBefore p z) (sym (pos_cmp_same x y e)) b
       | Greater ↦ λ e k. absurd (cc)
     ] refl h
-
-pub before-reaches : (x y z : Pos) → IsBefore x y → Reaches y z → IsBefore x z
-before-reaches x y z b h =
-    elim (pos_cmp y z) as (λ r. pos_cmp y z ≡ r → is_le r ≡ true → IsBefore x z) [
-      | Less ↦ λ e k. pos_cmp_total.trans x y z b e
-      | Equal ↦ λ e k. subst (λ p. IsBefore x p) (pos_cmp_same y z e) b
-      | Greater ↦ λ e k. absurd (cc)
-    ] refl h
-
-pub turned-before : (x y : Pos) → IsBefore x y → pos_cmp y x ≡ Greater
-turned-before x y e = pos_cmp_total.antisymm y x ∙ ap ordering_reverse e
-
-pub never-before : (x y : Pos) → Reaches y x → IsBefore x y → ⊥
-never-before x y h b = let k : false ≡ true = sym (ap is_le (turned-before x y b)) ∙ h in absurd (cc)
-
-pub greater-before : (x y : Pos) → pos_cmp x y ≡ Greater → IsBefore y x
-greater-before x y e = pos_cmp_total.antisymm y x ∙ ap ordering_reverse e
-
-pub either-way : (x y : Pos) → Reaches x y ⊎ IsBefore y x
-either-way x y =
-    elim (pos_cmp x y) as (λ r. pos_cmp x y ≡ r → Reaches x y ⊎ IsBefore y x) [
-      | Less ↦ λ e. inl (ap is_le e)
-      | Equal ↦ λ e. inl (ap is_le e)
-      | Greater ↦ λ e. inr (greater-before x y e)
-    ] refl
-
-pub same-place : (x y : Pos) → Reaches x y → Reaches y x → x ≡ y
-same-place x y h k =
-    elim (pos_cmp x y) as (λ r. pos_cmp x y ≡ r → x ≡ y) [
-      | Less ↦ λ e. absurd (never-before x y k e)
-      | Equal ↦ λ e. pos_cmp_same x y e
-      | Greater ↦ λ e. (let z : false ≡ true = sym (ap is_le e) ∙ h in absurd (cc))
-    ] refl
 
 pub not-le : (x y : Pos) → is_le (pos_cmp x y) ≡ false → IsBefore y x
 not-le x y e =

@@ -18,7 +18,8 @@ use Rattle.rc_cacheread.specs.declared.readers.Stage.TheVariants.{Away, Sought, 
 use Rattle.rc_cacheread.specs.Reading.{Reads, behind_row, said_at}
 use Rattle.rc_cacheread.specs.Sharing.{Fits, Leads}
 use Rattle.rc_cacheread.proofs.Lists.{behind-its-row, change_if, gap-read, has-row, turns}
-use Rattle.rc_cacheread.proofs.Orders.{before-reach, before-reaches, reach-itself, reach-through, same-place}
+use Rattle.rc_cacheread.specs.laws.Orders.{before-reaches, reach-through, same-place}
+use Rattle.rc_cacheread.proofs.Orders.{before-reach, reach-itself}
 use Rattle.rc_cacheread.proofs.Streams.{first-change, first-row, nothing-fits, nothing-says}
 
 -- each stream that may stand below becomes one that may stand below afterwards, and says the same from there on

@@ -28,7 +28,8 @@ use Rattle.rc_cacheread.proofs.Going.{append-none}
 use Rattle.rc_cacheread.proofs.Idle.{idle-front}
 use Rattle.rc_cacheread.proofs.Leaving.{KnownLeft, both-ways}
 use Rattle.rc_cacheread.proofs.Lists.{behind-its-row, change_if, gap-read, has-row, same-tombs, turns}
-use Rattle.rc_cacheread.proofs.Orders.{before-reach, before-reaches, reach-itself, reach-through}
+use Rattle.rc_cacheread.specs.laws.Orders.{before-reaches, reach-through}
+use Rattle.rc_cacheread.proofs.Orders.{before-reach, reach-itself}
 use Rattle.rc_cacheread.proofs.Outcomes.{Advance, Carries, leads-on}
 use Rattle.rc_cacheread.proofs.Stepping.{reader_of}
 

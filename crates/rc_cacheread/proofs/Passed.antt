@@ -13,10 +13,12 @@ use Rattle.rc_cacheread.specs.declared.spots.RowAt.TheVariants as row
 use Rattle.rc_cacheread.specs.declared.spots.Spot.{Spot}
 use Rattle.rc_cacheread.specs.calls.Below.{TakenIn}
 use Rattle.rc_cacheread.specs.Passing.{IsKnownFrom, IsKnownOver}
+use Rattle.rc_cacheread.specs.laws.Passing.{over-nothing}
 use Rattle.rc_cacheread.specs.calls.Passing.{PassesWhole}
 use Rattle.rc_cacheread.specs.Reading.{behind_row}
 use Rattle.rc_cacheread.specs.Spots.{past_row, stand}
-use Rattle.rc_cacheread.proofs.Orders.{behind-within, either-way, never-before, reach-through, same-place}
+use Rattle.rc_cacheread.specs.laws.Orders.{either-way, never-before, same-place}
+use Rattle.rc_cacheread.proofs.Orders.{behind-within}
 
 -- where nothing was lost in the end nothing was lost before or since
 pub between : (a b c : ℕ) → a ≤ b → b ≤ c → NoneLost a c → NoneLost a b × NoneLost b c
@@ -27,9 +29,6 @@ pub same-stand : (s t : Spot) → t.place ≡ s.place → t.row ≡ s.row → s.
 same-stand s t p e u = λ i. past_row ((e ∙ u) i) (p i)
 
 module _ (knows : Pos → There → Type 0) where
-  pub over-nothing : (x y : Pos) → y ≡ x → IsKnownOver knows x y
-  over-nothing x y e = λ z h b. absurd (never-before z x h (subst (IsBefore z) e b))
-
   pub over-gap : (x y : Pos) (tomb : Option Tomb) → Throughout x y (λ z. knows z (empty_row, tomb)) → IsKnownOver knows x y
   over-gap x y tomb d = λ z h b. inl ((empty_row, tomb), d z h b)
 
@@ -45,16 +44,6 @@ module _ (knows : Pos → There → Type 0) where
     by_way : (z : Pos) → Reaches x z → IsBefore z (behind_row key) → Reaches (row_pos key) z ⊎ IsBefore z (row_pos key) → IsKnownFrom knows x z
     by_way z h b (inl m) = row-or-inside x z key r tomb on k w m b
     by_way z h b (inr c) = d z h c
-
-  wider : (x y z : Pos) → Reaches x y → IsKnownFrom knows y z → IsKnownFrom knows x z
-  wider x y z on (inl d) = inl d
-  wider x y z on (inr d) = inr (record { key = d.key; row = d.row; tomb = d.tomb; known = d.known; written = d.written; on = reach-through x y (row_pos d.key) on d.on; behind = d.behind; before = d.before })
-
-  pub over-over : (x y z : Pos) → Reaches x y → IsKnownOver knows x y → IsKnownOver knows y z → IsKnownOver knows x z
-  over-over x y z on a b = λ w h c. by_way w h c (either-way y w) where
-    by_way : (w : Pos) → Reaches x w → IsBefore w z → Reaches y w ⊎ IsBefore w y → IsKnownFrom knows x w
-    by_way w h c (inl m) = wider x y w on (b w m c)
-    by_way w h c (inr m) = a w h m
 
   pub over-ends : (x x' y y' : Pos) → x' ≡ x → y' ≡ y → IsKnownOver knows x y → IsKnownOver knows x' y'
   over-ends x x' y y' e k d = subst (λ (z : Pos × Pos). IsKnownOver knows z.0 z.1) (λ i. (sym e i, sym k i)) d

@@ -13,8 +13,9 @@ use Rattle.rc_cacheread.specs.Sharing.{OfBelow, OfFiller, OfKnown}
 use Rattle.rc_cacheread.specs.Spots.{stand}
 use Rattle.rc_cacheread.proofs.Chains.{chain-after, chain-none, chain-stop}
 use Rattle.rc_cacheread.proofs.Filled.{filled-over, filled-still}
-use Rattle.rc_cacheread.proofs.Passed.{over-nothing}
-use Rattle.rc_cacheread.proofs.Orders.{reach-itself, reach-through}
+use Rattle.rc_cacheread.specs.laws.Passing.{over-nothing}
+use Rattle.rc_cacheread.specs.laws.Orders.{reach-through}
+use Rattle.rc_cacheread.proofs.Orders.{reach-itself}
 
 -- a refusal that names a spot names one that could be named before
 pub named-on : (spots now : FileSpots) (e : StreamErr) → ((file offset : ℕ) → now file offset → spots file offset) → IsNamed now e → IsNamed spots e

@@ -20,7 +20,7 @@ use Rattle.rc_cacheread.specs.calls.Spots.{IsBegunAt, HasNothingDue, IsSpotSough
 use Rattle.rc_cacheread.proofs.Going.{at-lags}
 use Rattle.rc_cacheread.proofs.Idle.{idle-front, idle-stand, idle-told}
 use Rattle.rc_cacheread.proofs.Lists.{at_of, sought-read, sought-there, sought_from, unpassed-behind}
-use Rattle.rc_cacheread.proofs.Orders.{before-reaches, reach-through}
+use Rattle.rc_cacheread.specs.laws.Orders.{before-reaches, reach-through}
 use Rattle.rc_cacheread.proofs.Outcomes.{Carries, leads-on}
 use Rattle.rc_cacheread.proofs.Parting.{carries-away}
 use Rattle.rc_cacheread.proofs.Stepping.{reader_of}

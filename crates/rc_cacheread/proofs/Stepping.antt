@@ -29,7 +29,8 @@ use Rattle.rc_cacheread.proofs.Chains.{chain-on}
 use Rattle.rc_cacheread.proofs.Going.{Came, Gone}
 use Rattle.rc_cacheread.proofs.Idle.{idle-front, idle-stand}
 use Rattle.rc_cacheread.proofs.Lists.{at_of, first-says, quiet-before, from-first, upto-behind}
-use Rattle.rc_cacheread.proofs.Orders.{before-reaches, either-way, reach-itself, reach-through, same-place}
+use Rattle.rc_cacheread.specs.laws.Orders.{before-reaches, either-way, reach-through, same-place}
+use Rattle.rc_cacheread.proofs.Orders.{reach-itself}
 use Rattle.rc_cacheread.proofs.Outcomes.{Advance, Carries, Outcome, leads-on}
 
 -- a reader of these parts

@@ -18,8 +18,9 @@ use Rattle.rc_cacheread.specs.declared.readers.Stage.{Stage}
 use Rattle.rc_cacheread.specs.declared.readers.Stage.TheVariants.{Away, Sought, Within}
 use Rattle.rc_cacheread.specs.Reading.{AreRowsApart, StandFrom, behind_row, said_at}
 use Rattle.rc_cacheread.specs.Sharing.{Fits}
+use Rattle.rc_cacheread.specs.laws.Orders.{before-reaches}
 use Rattle.rc_cacheread.proofs.Lists.{behind-its-row, from-behind, from-first, from-upto, over-change, over-empty, over-row, quiet-before, quiet-upto, row-said, sought-apart, sought-from, sought-there}
-use Rattle.rc_cacheread.proofs.Orders.{before-reaches, reach-itself}
+use Rattle.rc_cacheread.proofs.Orders.{reach-itself}
 
 abbrev is_first : Bool → Frag → Frag → Type 0
 is_first b g f = (g ≡ f) × (b ≡ true)

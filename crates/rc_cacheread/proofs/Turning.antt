@@ -23,7 +23,8 @@ use Rattle.rc_cacheread.specs.Sharing.{Fits, IsAllKnown, IsPlaceAt, IsReady, IsS
 use Rattle.rc_cacheread.specs.Spots.{front, stand, tomb_told}
 use Rattle.rc_cacheread.specs.calls.Spots.{EndsUpto, IsSameSpot}
 use Rattle.rc_cacheread.proofs.Lists.{ended, none-upto, turns}
-use Rattle.rc_cacheread.proofs.Orders.{either-way, never-before, reach-itself, reach-through}
+use Rattle.rc_cacheread.specs.laws.Orders.{either-way, never-before, reach-through}
+use Rattle.rc_cacheread.proofs.Orders.{reach-itself}
 use Rattle.rc_cacheread.proofs.Outcomes.{Carries, leads-on}
 use Rattle.rc_cacheread.proofs.Parting.{carries-away}
 use Rattle.rc_cacheread.proofs.Stepping.{reader_of}

@@ -5,3 +5,4 @@ pub mod Reading
 pub mod Sharing
 pub mod Spots
 pub mod calls
+pub mod laws

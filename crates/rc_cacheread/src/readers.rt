@@ -19,7 +19,7 @@ use rc_mutation::{Frag, Head, HeadAt};
 use rc_outside::Store;
 use rc_position::{Pos, Slice};
 use rc_stream::{Filler, Frags, Known, StreamErr};
-use std::alloc::Global;
+use std::alloc::{AllocError, Global};
 
 /// Where the stream below is.
 #[derive(Clone, Copy, Debug)]
@@ -61,6 +61,13 @@ impl<K, F, P> CacheReader<K, F, P> {
             stage: Stage::Away,
             lags: true,
         }
+    }
+
+    /// From where on nothing was read. The only error is want of memory.
+    pub fn stand(&self, alloc: Global) -> Result<Pos, AllocError>
+        ensures { IfOk result (λ x. x ≡ stand self.now.spot) }
+    {
+        self.spot.stand(alloc)
     }
 
     /// The snapshot, the stream below and the filler, as they are.

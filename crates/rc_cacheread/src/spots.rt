@@ -247,6 +247,18 @@ impl Spot {
         }
     }
 
+    // From where on nothing was read. The only error is want of memory.
+    pub(crate) fn stand(&self, alloc: Global) -> Result<Pos, AllocError>
+        ensures { IfOk result (λ x. x ≡ stand self.now) }
+    {
+        let mut place = self.place.copy(alloc)?;
+        match &self.row {
+            RowAt::Unread => {}
+            RowAt::Due(_) | RowAt::Given => place.weight = Weight::After,
+        }
+        Ok(place)
+    }
+
     // What comes next, up to a position, in a slice that ends at `to`. The only error is want of memory: then all is as it was.
     pub(crate) fn give(&mut self, alloc: Global, to: &Pos, upto: &Pos) -> Result<Turn, AllocError>
         ensures ok { IfOk result (GivesDue to.now upto.now self.old self.new) }

@@ -16,12 +16,13 @@ use Rattle.rc_cacheread.proofs.Chains.{chain-none, chain-one, many-many, one}
 use Rattle.rc_cacheread.proofs.Going.{Gone, at-on, gone, leads-here, tells}
 use Rattle.rc_cacheread.proofs.Idle.{idle-front, idle-stand}
 use Rattle.rc_cacheread.proofs.Leaving.{fills-left, kept-kept}
-use Rattle.rc_cacheread.proofs.Orders.{near-is, near-on, near-within, reach-itself, reach-through}
+use Rattle.rc_cacheread.specs.laws.Orders.{reach-through}
+use Rattle.rc_cacheread.proofs.Orders.{near-is, near-on, near-within, reach-itself}
 use Rattle.rc_cacheread.proofs.Seeking.{idle-outcome}
 use Rattle.rc_cacheread.proofs.Stepping.{below-call, end-on, fill-calls, led, no-whole, reader_of, ready-on, sees-on, stays-on, step-says}
 use Rattle.rc_cacheread.specs.Passing.{IsKnownOver}
 use Rattle.rc_cacheread.proofs.Filled.{filled-below, filled-read, filled-still, stays-lost}
-use Rattle.rc_cacheread.proofs.Passed.{over-nothing}
+use Rattle.rc_cacheread.specs.laws.Passing.{over-nothing}
 use Rattle.rc_cacheread.proofs.below.go_below.Goals as goal
 
 pub returns-in-Err-clause-did : goal.returns-in-Err-clause-did

@@ -13,12 +13,13 @@ use Rattle.rc_cacheread.proofs.Chains.{chain-one, many-many, one}
 use Rattle.rc_cacheread.proofs.Going.{Gone, at-on, gone-here, leads-here, tells-here}
 use Rattle.rc_cacheread.proofs.Idle.{idle-front, idle-stand}
 use Rattle.rc_cacheread.proofs.Leaving.{fills-left, kept-kept}
-use Rattle.rc_cacheread.proofs.Orders.{reach-itself, reach-through}
+use Rattle.rc_cacheread.specs.laws.Orders.{reach-through}
+use Rattle.rc_cacheread.proofs.Orders.{reach-itself}
 use Rattle.rc_cacheread.proofs.Seeking.{idle-outcome}
 use Rattle.rc_cacheread.proofs.Stepping.{below-call, end-reaches, fill-calls, led, no-whole, reader_of, ready-on, sees-on, stays-on, step-says}
 use Rattle.rc_cacheread.specs.Passing.{IsKnownOver}
 use Rattle.rc_cacheread.proofs.Filled.{filled-below, filled-read}
-use Rattle.rc_cacheread.proofs.Passed.{over-nothing}
+use Rattle.rc_cacheread.specs.laws.Passing.{over-nothing}
 use Rattle.rc_cacheread.proofs.below.look_here.Goals as goal
 
 pub take_here-requires-clause-ready : goal.take_here-requires-clause-ready

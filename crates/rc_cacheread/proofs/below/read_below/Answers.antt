@@ -13,7 +13,7 @@ use Rattle.rc_cacheread.proofs.Stepping.{end-reaches, ends-on, sees-lags, stays-
 use Rattle.std.specs.Prelude.{⊤}
 use Rattle.rc_cacheread.specs.Passing.{IsKnownOver}
 use Rattle.rc_cacheread.proofs.Filled.{filled-on, filled-then}
-use Rattle.rc_cacheread.proofs.Passed.{over-nothing}
+use Rattle.rc_cacheread.specs.laws.Passing.{over-nothing}
 use Rattle.rc_cacheread.proofs.below.read_below.Goals as goal
 
 pub settle-requires-clause-ready : goal.settle-requires-clause-ready

@@ -5,7 +5,8 @@ use Rattle.rc_stream.specs.Places.{Reaches}
 use Rattle.rc_cacheread.specs.declared.readers.Stage.TheVariants.{Away}
 use Rattle.rc_cacheread.specs.declared.spots.Step.TheVariants as step
 use Rattle.rc_cacheread.specs.calls.Below.{Tells, TookFound}
-use Rattle.rc_cacheread.proofs.Orders.{before-reach, before-reaches, near-is, near-on, not-le, not-lt, reach-before, reach-through}
+use Rattle.rc_cacheread.specs.laws.Orders.{before-reaches, reach-through}
+use Rattle.rc_cacheread.proofs.Orders.{before-reach, near-is, near-on, not-le, not-lt, reach-before}
 use Rattle.rc_cacheread.proofs.below.take_found.Goals as goal
 
 pub take_end-requires-clause-source : goal.take_end-requires-clause-source

@@ -1,6 +1,7 @@
 -- One fill, if the stretch is not empty.
 use Rattle.std.proofs.Common.{refl, ap, sym, ◌∙◌}
-use Rattle.rc_cacheread.proofs.Orders.{not-lt, never-before, reach-through}
+use Rattle.rc_cacheread.specs.laws.Orders.{never-before, reach-through}
+use Rattle.rc_cacheread.proofs.Orders.{not-lt}
 use Rattle.std.specs.Ordering.{is_lt}
 use Rattle.rc_cacheread.proofs.filling.fill_gap.Goals as goal
 

@@ -9,7 +9,8 @@ use Rattle.rc_cacheread.proofs.Chains.{one}
 use Rattle.rc_cacheread.proofs.Lists.{untrue}
 use Rattle.rc_cacheread.proofs.Orders.{at-itself, is-eq, reach-itself}
 use Rattle.rc_cacheread.specs.Reading.{behind_row}
-use Rattle.rc_cacheread.proofs.Passed.{over-ends, over-nothing, over-row, same-stand, taken-nothing}
+use Rattle.rc_cacheread.specs.laws.Passing.{over-nothing}
+use Rattle.rc_cacheread.proofs.Passed.{over-ends, over-row, same-stand, taken-nothing}
 use Rattle.rc_cacheread.specs.Spots.{stand}
 use Rattle.rc_cacheread.proofs.filling.take_row_here.Goals as goal
 use Rattle.rc_cacheread.proofs.filling.take_row_here.Goals.{then-is_empty-via-then-is_empty, then-is_empty-via-else-is_empty+then-not-is_eq}

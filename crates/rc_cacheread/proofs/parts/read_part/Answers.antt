@@ -18,13 +18,15 @@ use Rattle.rc_cacheread.proofs.Going.{front-changed, told-elsewhere}
 use Rattle.rc_cacheread.proofs.Idle.{idle-front, idle-stand}
 use Rattle.rc_cacheread.proofs.Leaving.{known-left}
 use Rattle.rc_cacheread.proofs.Lists.{behind-its-row, change_if}
-use Rattle.rc_cacheread.proofs.Orders.{before-reach, never-before, reach-itself}
+use Rattle.rc_cacheread.specs.laws.Orders.{never-before}
+use Rattle.rc_cacheread.proofs.Orders.{before-reach, reach-itself}
 use Rattle.rc_cacheread.proofs.Outcomes.{carries-same}
 use Rattle.rc_cacheread.proofs.Parting.{advance-at, advance-gap, advance-row, advance-same, carries-away, front-over, ready-known, sees-known, stays-known}
 use Rattle.rc_cacheread.proofs.Stepping.{ends-on, known-calls, reader_of}
 use Rattle.rc_cacheread.specs.Passing.{IsKnownOver}
 use Rattle.rc_cacheread.proofs.Filled.{filled-known, filled-then}
-use Rattle.rc_cacheread.proofs.Passed.{over-ends, over-gap, over-nothing, over-row, whole-ends, whole-gap, whole-nothing, whole-row}
+use Rattle.rc_cacheread.specs.laws.Passing.{over-nothing}
+use Rattle.rc_cacheread.proofs.Passed.{over-ends, over-gap, over-row, whole-ends, whole-gap, whole-nothing, whole-row}
 use Rattle.rc_cacheread.proofs.parts.read_part.Goals as goal
 
 pub returns-in-Ok-Row-clause-stays : goal.returns-in-Ok-Row-clause-stays

@@ -18,7 +18,8 @@ use Rattle.rc_cacheread.proofs.Stepping.{end-reaches, ends-on, reader_of}
 use Rattle.rc_cacheread.proofs.Turning.{first-left, nothing-left, ready-alike, ready-closed, sees-alike, sees-at, sees-closed, stays-alike, stays-closed, still-known}
 use Rattle.rc_cacheread.specs.Passing.{IsKnownOver}
 use Rattle.rc_cacheread.proofs.Filled.{filled-still}
-use Rattle.rc_cacheread.proofs.Passed.{known-here, over-nothing, whole-ends}
+use Rattle.rc_cacheread.specs.laws.Passing.{over-nothing}
+use Rattle.rc_cacheread.proofs.Passed.{known-here, whole-ends}
 use Rattle.rc_cacheread.proofs.readers.round.Goals as goal
 
 pub returns-in-Ok-Given-clause-says : goal.returns-in-Ok-Given-clause-says

@@ -8,7 +8,8 @@ use Rattle.rc_cacheread.specs.Sharing.{of_below, of_filler, of_known}
 use Rattle.rc_cacheread.specs.Spots.{stand}
 use Rattle.rc_cacheread.specs.calls.Spots.{GoesOn}
 use Rattle.rc_cacheread.proofs.Chains.{chain-none}
-use Rattle.rc_cacheread.proofs.Orders.{never-before, reach-itself}
+use Rattle.rc_cacheread.specs.laws.Orders.{never-before}
+use Rattle.rc_cacheread.proofs.Orders.{reach-itself}
 use Rattle.rc_cacheread.proofs.Sought.{at-begun, on-begun, ready-begun, sees-begun, sees-sought, stays-begun}
 use Rattle.rc_cacheread.proofs.Turning.{ready-alike, sees-alike, stays-alike}
 use Rattle.std.specs.Prelude.{⊤}
