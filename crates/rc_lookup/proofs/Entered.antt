@@ -29,8 +29,8 @@ use Rattle.rc_cached.specs.Coming.{AreCountsInRange}
 use Rattle.rc_row_cache.specs.Calls.{IsEnterRefused, IsEntered, IsKeptOut}
 use Rattle.rc_snapshots.specs.Seeing.{AllStillSee}
 use Rattle.rc_row_cache.specs.Footprint.{AreInUse, HaveOneVersion, cache_snapshots, memtable_bytes}
+use Rattle.rc_lookup.specs.Known.{KnowsStaticRow}
 use Rattle.rc_lookup.specs.Rest.{LeavesBut, LeavesRest}
-use Rattle.rc_lookup.specs.calls.Entering.{KnowsStaticRow}
 use Rattle.rc_lookup.specs.laws.Lost.{raised-low}
 use Rattle.rc_lookup.proofs.Counted.{room-range, skip-losses}
 use Rattle.rc_lookup.proofs.Kept.{here-or-beside}

@@ -8,7 +8,6 @@ use Rattle.lsa_store.specs.declared.place.Ref.{Ref}
 use Rattle.lsa_region.specs.Region.{View}
 use Rattle.rc_position.specs.declared.comps.Comp.{Comp}
 use Rattle.rc_position.specs.declared.positions.Pos.{Pos}
-use Rattle.rc_position.specs.Position.{row_pos}
 use Rattle.rc_query.specs.declared.lines.OutLine.{OutLine}
 use Rattle.rc_query.specs.declared.lines.OutLine.TheVariants as line
 use Rattle.rc_chain.specs.Lives.{IsRemainder}
@@ -30,7 +29,7 @@ use Rattle.rc_row_cache.specs.Saying.{Below, CacheSays}
 use Rattle.rc_lookup.specs.Rest.{LeavesRest}
 use Rattle.rc_lookup.proofs.Kept.{unchanged}
 use Rattle.rc_lookup.proofs.Reordered.{entries-reordered, rest-reordered}
-use Rattle.rc_lookup.proofs.Walked.{IsPlaced, listed-has}
+use Rattle.rc_lookup.proofs.Placed.{IsPlaced, listed-has}
 
 -- ---- what is left of a list
 
@@ -183,9 +182,12 @@ touched-reordered these old new t = record {
 
 -- ---- version by version
 
--- a place is that of the entry of a row in a version below one
-abbrev pub IsRowBelow : ℕ → ℕ → List Comp → Member → Type 0
-IsRowBelow id n key w = (w.chain ≡ id) × (w.version < n) × (w.position ≡ Some (row_pos key))
+-- a place is of a version of a chain below one, and this holds of its position; and of that version itself
+abbrev pub IsBelow : ℕ → ℕ → (Option Pos → Type 0) → Member → Type 0
+IsBelow id n at w = (w.chain ≡ id) × (w.version < n) × at w.position
+
+abbrev pub IsInVersion : ℕ → ℕ → (Option Pos → Type 0) → Member → Type 0
+IsInVersion id n at w = (w.chain ≡ id) × (w.version ≡ n) × at w.position
 
 below-or : (m n : ℕ) → m < n + 1 → (m < n) ⊎ (m ≡ n)
 below-or m n low = at-or-below m n (omega (arith, low))
@@ -196,32 +198,46 @@ below-or m n low = at-or-below m n (omega (arith, low))
     at-or-below (suc m) zero low = absurd (omega (arith, low))
     at-or-below (suc m) (suc n) low = elim (at-or-below m n (omega (arith, low))) [ inl less ↦ inl (omega (arith, less)) | inr same ↦ inr (ap suc same) ]
 
-pub below-start : (id : ℕ) (key : List Comp) (m : Memory) → AreTouched (IsRowBelow id 0 key) m m
-below-start id key m = touched-none (IsRowBelow id 0 key) m (λ w on at. let low = at.1 in omega (arith, low))
+pub below-start : (id : ℕ) (at : Option Pos → Type 0) (m : Memory) → AreTouched (IsBelow id 0 at) m m
+below-start id at m = touched-none (IsBelow id 0 at) m (λ w on is. let low = is.1 in omega (arith, low))
 
-pub below-step : (id n : ℕ) (key : List Comp) (old mid new : Memory) → AreTouched (IsRowBelow id n key) old mid → AreTouched (λ w. w ≡ member_at id n (Some (row_pos key))) mid new → AreTouched (IsRowBelow id (n + 1) key) old new
-below-step id n key old mid new h g = touched-like (λ w. IsRowBelow id n key w ⊎ (w ≡ member_at id n (Some (row_pos key)))) (IsRowBelow id (n + 1) key) old new
-    (λ w on at. elim at [
+pub below-step : (id n : ℕ) (at : Option Pos → Type 0) (old mid new : Memory) → AreTouched (IsBelow id n at) old mid → AreTouched (IsInVersion id n at) mid new → AreTouched (IsBelow id (n + 1) at) old new
+below-step id n at old mid new h g = touched-like (λ w. IsBelow id n at w ⊎ IsInVersion id n at w) (IsBelow id (n + 1) at) old new
+    (λ w on is. elim is [
       | inl below ↦ (let low = below.1 in (below.0, omega (arith, low), below.2))
-      | inr same ↦ (let is : w.version ≡ n = ap (λ (y : Member). y.version) same in (ap (λ (y : Member). y.chain) same, omega (arith, is), ap (λ (y : Member). y.position) same))
+      | inr same ↦ (let here = same.1 in (same.0, omega (arith, here), same.2))
     ])
-    (λ w on at. elim (below-or w.version n at.1) [
-      | inl low ↦ inl (at.0, low, at.2)
-      | inr same ↦ inr (λ i. record { chain = at.0 i; version = same i; position = at.2 i })
-    ])
-    (touched-then (IsRowBelow id n key) (λ w. w ≡ member_at id n (Some (row_pos key))) old mid new h g)
+    (λ w on is. elim (below-or w.version n is.1) [ inl low ↦ inl (is.0, low, is.2) | inr same ↦ inr (is.0, same, is.2) ])
+    (touched-then (IsBelow id n at) (IsInVersion id n at) old mid new h g)
+
+-- one place of a version
+in-version : (id n : ℕ) (p : Option Pos) (w : Member) → w ≡ member_at id n p → IsInVersion id n (λ q. q ≡ p) w
+in-version id n p w same = (ap (λ (y : Member). y.chain) same, ap (λ (y : Member). y.version) same, ap (λ (y : Member). y.position) same)
+
+of-version : (id n : ℕ) (p : Option Pos) (w : Member) → IsInVersion id n (λ q. q ≡ p) w → w ≡ member_at id n p
+of-version id n p w is = λ i. record { chain = is.0 i; version = is.1 i; position = is.2 i }
+
+pub version-one : (id n : ℕ) (p : Option Pos) (old new : Memory) → AreTouched (λ w. w ≡ member_at id n p) old new → AreTouched (IsInVersion id n (λ q. q ≡ p)) old new
+version-one id n p old new h = touched-like (λ w. w ≡ member_at id n p) (IsInVersion id n (λ q. q ≡ p)) old new (λ w on is. in-version id n p w is) (λ w on is. of-version id n p w is) h
+
+-- and two
+pub version-two : (id n : ℕ) (p r : Option Pos) (old mid new : Memory) → AreTouched (λ w. w ≡ member_at id n p) old mid → AreTouched (λ w. w ≡ member_at id n r) mid new → AreTouched (IsInVersion id n (λ q. (q ≡ p) ⊎ (q ≡ r))) old new
+version-two id n p r old mid new h g = touched-like (λ w. IsInVersion id n (λ q. q ≡ p) w ⊎ IsInVersion id n (λ q. q ≡ r) w) (IsInVersion id n (λ q. (q ≡ p) ⊎ (q ≡ r))) old new
+    (λ w on is. elim is [ inl a ↦ (a.0, a.1, inl a.2) | inr b ↦ (b.0, b.1, inr b.2) ])
+    (λ w on is. elim is.2 [ inl a ↦ inl (is.0, is.1, a) | inr b ↦ inr (is.0, is.1, b) ])
+    (touched-then (IsInVersion id n (λ q. q ≡ p)) (IsInVersion id n (λ q. q ≡ r)) old mid new (version-one id n p old mid h) (version-one id n r mid new g))
 
 some-chain : (o : Option KeptChain) → IsSome o → (k : KeptChain) × (o ≡ Some k)
 some-chain None on = absurd (cc)
 some-chain (Some k) on = (k, refl)
 
-pub below-all : (id n : ℕ) (key : List Comp) (old new : Memory) → IsRecency old → HasChain old id → ((k : KeptChain) → chain_at old id ≡ Some k → length k.chain.versions ≤ n) → AreTouched (IsRowBelow id n key) old new → AreTouched (IsEntryOfRow id key) old new
-below-all id n key old new rule has most h = touched-like (IsRowBelow id n key) (IsEntryOfRow id key) old new (λ w on at. (at.0, at.2))
-    (λ w on at. (
+pub below-all : (id n : ℕ) (at : Option Pos → Type 0) (old new : Memory) → IsRecency old → HasChain old id → ((k : KeptChain) → chain_at old id ≡ Some k → length k.chain.versions ≤ n) → AreTouched (IsBelow id n at) old new → AreTouched (λ w. (w.chain ≡ id) × at w.position) old new
+below-all id n at old new rule has most h = touched-like (IsBelow id n at) (λ w. (w.chain ≡ id) × at w.position) old new (λ w on is. (is.0, is.2))
+    (λ w on is. (
     let k = some-chain (chain_at old id) has in
-    let may : MayBeListed k.0.chain w.version w.position = subst (λ (o : Option KeptChain). IsSomeAnd o (λ q. MayBeListed q.chain w.version w.position)) (ap (chain_at old) at.0 ∙ k.1) (rule.members w on) in
+    let may : MayBeListed k.0.chain w.version w.position = subst (λ (o : Option KeptChain). IsSomeAnd o (λ q. MayBeListed q.chain w.version w.position)) (ap (chain_at old) is.0 ∙ k.1) (rule.members w on) in
     let low = number-low k.0.chain.versions w.version may.version may.number in let all = most k.0 k.1 in
-    (at.0, omega (arith, low, all), at.1)))
+    (is.0, omega (arith, low, all), is.1)))
     h
 
 -- ---- where the chain is not there

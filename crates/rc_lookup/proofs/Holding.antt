@@ -15,12 +15,11 @@ use Rattle.rc_snapshots.specs.laws.Seeing.{all-see}
 use Rattle.rc_row_cache.specs.Fillers.{losses}
 use Rattle.rc_row_cache.specs.Found.{entry_number}
 use Rattle.rc_row_cache.specs.Footprint.{AreInUse, HaveOneVersion, cache_snapshots, memtable_bytes}
-use Rattle.rc_lookup.specs.Held.{IsHeldOf}
-use Rattle.rc_lookup.specs.Known.{IsChainKnown}
+use Rattle.rc_lookup.specs.Held.{IsHeldOf, IsHeldWhole}
+use Rattle.rc_lookup.specs.Known.{IsChainKnown, IsPartitionKnown}
 use Rattle.rc_lookup.specs.Looked.{IsStill}
 use Rattle.rc_lookup.specs.Rest.{LeavesBut, LeavesRest}
 use Rattle.rc_lookup.specs.Staying.{IsStillThere}
-use Rattle.rc_lookup.specs.calls.Entering.{IsHeldWhole}
 use Rattle.rc_lookup.specs.calls.Reading.{without_snap}
 use Rattle.rc_lookup.specs.calls.Touched.{IsReordered}
 use Rattle.rc_lookup.proofs.Kept.{back-used, has-pin, here-or-beside, looked, told-looked, unchanged}
@@ -170,6 +169,12 @@ match-also A B P Q (Ok None) n f h = n h
 match-also A B P Q (Ok (Some s)) n f h = f s h
 match-also A B P Q (Err e) n f h = tt
 
+-- what holds of one that is given
+pub some-of-match : (A : Type 0) (P : Snap → Type 0) (r : Result (Option Snap) AllocError) → IfOk r (λ o. MatchOption o A P) → IfOk r (λ o. IfSome o P)
+some-of-match A P (Ok None) h = tt
+some-of-match A P (Ok (Some s)) h = h
+some-of-match A P (Err e) h = tt
+
 -- what holds anyway holds on an error
 pub failed-done : (r : Result (Option Snap) AllocError) (P : Type 0) → P → OnErr r P
 failed-done (Ok o) P h = tt
@@ -178,7 +183,7 @@ failed-done (Err e) P h = h
 -- what is known to a snapshot that is handed out is to the chain of its entry
 pub held-is-known : (key : List ℕ) (entries : List (List ℕ × ℕ)) (old new : Memory) (N : Type 0) (r : Result (Option Snap) AllocError) → IfOk r (λ o. IfSome o (IsHeldOf key entries old new)) → IfOk r (λ o. MatchOption o (N → ⊥) (λ s. N → IsHeldWhole new s)) → OnOk r (N → IsSomeAnd (entry_number entries key) (IsChainKnown new))
 held-is-known key entries old new N (Ok None) t w = λ n. absurd (w n)
-held-is-known key entries old new N (Ok (Some s)) t w = λ n. subst (λ (o : Option ℕ). IsSomeAnd o (IsChainKnown new)) (sym t.entry) (chain-held s new t.there (w n).known (w n).may)
+held-is-known key entries old new N (Ok (Some s)) t w = λ n. subst (λ (o : Option ℕ). IsSomeAnd o (IsChainKnown new)) (sym t.entry) (chain-held IsPartitionKnown s new t.there (w n).known (w n).may)
 held-is-known key entries old new N (Err e) t w = tt
 
 -- no count fell, whatever was answered

@@ -3,6 +3,7 @@ use Rattle.std.proofs.Common.{inl, inr, ◌≡◌, ◌≢◌, ◌⊎◌, ℕ, ze
 use Rattle.std.specs.Option.{option_map}
 use Rattle.std.specs.Prelude.{Contains, IfSome, IsSomeAnd, length, take}
 use Rattle.lsa_region.specs.Region.{SameObjects, View}
+use Rattle.rc_core.specs.declared.entries.ChainKind.{ChainKind}
 use Rattle.rc_core.specs.declared.entries.ChainKind.TheVariants.{Cache, Memtable}
 use Rattle.rc_position.specs.Position.{Head}
 use Rattle.rc_mutation.specs.declared.mutations.Mutation.{Mutation}
@@ -23,8 +24,6 @@ use Rattle.rc_cached.specs.Stands.{HasCacheSnapshot}
 use Rattle.rc_snapshots.specs.Seeing.{StillSees}
 use Rattle.rc_core.specs.Version.{Version}
 use Rattle.rc_row_cache.specs.Footprint.{AreInUse}
-use Rattle.rc_lookup.specs.Known.{IsChainKnown, IsPartitionKnown}
-use Rattle.rc_lookup.specs.calls.Known.{IsSnapKnown}
 use Rattle.rc_lookup.specs.Looked.{IsStill, IsUnread}
 use Rattle.rc_lookup.specs.Staying.{IsStillThere}
 use Rattle.rc_lookup.specs.calls.Reading.{IsLookedUp, without_snap}
@@ -136,9 +135,9 @@ module _ (s : Snap) (old mid : Memory) (taken : IsSnapshotTaken old mid s.chain 
       (λ same. (passed_by s.pin k, ap (chain_at new) same ∙ here k (sym (ap (chain_at old) same) ∙ e), record { kind = refl; attached = refl; versions = refl }))
       (λ ne. (k, beside id ne ∙ e, record { kind = refl; attached = refl; versions = refl }))
 
-  -- where all is known to the chain it is to the snapshot, which pins the newest version
-  pub snap-known : MayFill mid s.chain s.pin → IsChainKnown old s.chain → IsSnapKnown mid s
-  snap-known may whole =
+  -- what holds of a chain by its kind and its versions holds by what the snapshot sees, which pins the newest version
+  pub snap-known : (P : ChainKind → List Version → Type 0) → MayFill mid s.chain s.pin → IsSomeAnd (chain_at old s.chain) (λ k. P k.chain.kind k.chain.versions) → P (kind_seen mid s) (versions_seen mid s)
+  snap-known P may whole =
       let k = was (chain_at old s.chain) refl in
       let here : h.chain ≡ with_snapshot (snapshot_number k.0.chain) k.0 = same_some h.chain (with_snapshot (snapshot_number k.0.chain) k.0) (sym h.there ∙ mid-here ∙ ap (option_map (λ (q : KeptChain). with_snapshot (snapshot_number q.chain) q)) k.1) in
       let fills : MayPopulate (at_place Head h.chain.chain) h.number =
@@ -146,8 +145,16 @@ module _ (s : Snap) (old mid : Memory) (taken : IsSnapshotTaken old mid s.chain 
       let versions : versions_seen mid s ≡ k.0.chain.versions =
       ap (λ o. versions_in o s.pin) h.there ∙ ap (versions_upto h.chain.chain.versions) h.pinned ∙ ap (λ n. take n h.chain.chain.versions) fills.newest ∙ take-all h.chain.chain.versions ∙ ap (λ (q : KeptChain). q.chain.versions) here in
       let kind : kind_seen mid s ≡ k.0.chain.kind = ap kind_in h.there ∙ ap (λ (q : KeptChain). q.chain.kind) here in
-      let all : IsPartitionKnown k.0.chain.kind k.0.chain.versions = subst (λ (o : Option KeptChain). IsSomeAnd o (λ q. IsPartitionKnown q.chain.kind q.chain.versions)) k.1 whole in
-      subst (λ q. IsPartitionKnown q (versions_seen mid s)) (sym kind) (subst (IsPartitionKnown k.0.chain.kind) (sym versions) all)
+      let all : P k.0.chain.kind k.0.chain.versions = subst (λ (o : Option KeptChain). IsSomeAnd o (λ q. P q.chain.kind q.chain.versions)) k.1 whole in
+      subst (λ q. P q (versions_seen mid s)) (sym kind) (subst (P k.0.chain.kind) (sym versions) all)
+
+  -- and what holds of the chain held of it before
+  pub chain-known : (P : ChainKind → List Version → Type 0) → IsSomeAnd (chain_at mid s.chain) (λ k. P k.chain.kind k.chain.versions) → IsSomeAnd (chain_at old s.chain) (λ k. P k.chain.kind k.chain.versions)
+  chain-known P on =
+      let k = was (chain_at old s.chain) refl in
+      let there : chain_at mid s.chain ≡ Some (with_snapshot (snapshot_number k.0.chain) k.0) = mid-here ∙ ap (option_map (λ (q : KeptChain). with_snapshot (snapshot_number q.chain) q)) k.1 in
+      let now : P k.0.chain.kind k.0.chain.versions = subst (λ (o : Option KeptChain). IsSomeAnd o (λ q. P q.chain.kind q.chain.versions)) there on in
+      subst (λ (o : Option KeptChain). IsSomeAnd o (λ q. P q.chain.kind q.chain.versions)) (sym k.1) now
 
   -- its chain is to be dropped only if it was before
   was-idle : (id : ℕ) (n : KeptChain) → chain_at new id ≡ Some n → IsIdle new id n.chain → (k : KeptChain) × (chain_at old id ≡ Some k) × IsIdle old id k.chain

@@ -12,8 +12,7 @@ mod Swept
 mod Statics
 mod Staying
 mod Leaving
-mod Recent
-mod Walked
+mod Placed
 mod Reordered
 mod Holding
 mod Limits

@@ -1,43 +1,15 @@
 -- What stays where the recency list has its members in another order.
-use Rattle.std.proofs.Common.{◌≡◌, ℕ, Bool, true, false, cond, List, [], ◌∷◌, ◌++◌, Some, inl, inr, refl, sym, ap, ◌∙◌, subst, ne_eqb, length, arith}
-use Rattle.std.specs.Prelude.{Contains, filter, not}
-use Rattle.std.proofs.lemmas.List.Elements.{Contains-append_right}
+use Rattle.std.proofs.Common.{◌≡◌, ℕ, List, Some, inl, inr, refl, sym, ap, ◌∙◌, subst, length, arith}
 use Rattle.lsa_path.specs.laws.Steps.{objects-trans}
 use Rattle.rc_memory.specs.Changes.{member_at}
-use Rattle.rc_memory.specs.Lists.{elem-cases, elem-first, elem-later, elem-left, elem-none}
-use Rattle.rc_memory.specs.Memory.{HasPin, Member, Memory, chain_at}
+use Rattle.rc_memory.specs.Memory.{HasPin, Memory, chain_at}
 use Rattle.rc_row_cache.specs.Entries.{AreEntries}
 use Rattle.rc_snapshots.specs.Seeing.{StillSees}
 use Rattle.rc_row_cache.specs.Footprint.{HaveOneVersion, cache_snapshots, memtable_bytes}
 use Rattle.rc_lookup.specs.Looked.{IsStill, IsUnread}
 use Rattle.rc_lookup.specs.Rest.{LeavesRest}
-use Rattle.rc_lookup.specs.Touched.{IsMadeRecent, is_beside}
-use Rattle.rc_lookup.specs.calls.Touched.{IsChainTouched, IsReordered}
-use Rattle.rc_lookup.proofs.Kept.{here-or-beside, unchanged}
-
--- ---- the members
-
-filter-at : (p : Member → Bool) (x : Member) (xs : List Member) (w : Member) (b : Bool) → p x ≡ b → p w ≡ true → Contains (x ∷ xs) w → (Contains xs w → Contains (filter p xs) w) → Contains (cond b (x ∷ filter p xs) (filter p xs)) w
-filter-at p x xs w true is e on more = elim (elem-cases x w xs on) [
-  | inl same ↦ subst (Contains (x ∷ filter p xs)) same (elem-first x (filter p xs))
-  | inr later ↦ elem-later x w (filter p xs) (more later)
-]
-filter-at p x xs w false is e on more = elim (elem-cases x w xs on) [
-  | inl same ↦ (let clash : true ≡ false = sym e ∙ sym (ap p same) ∙ is in absurd (cc))
-  | inr later ↦ more later
-]
-
-filter-has : (p : Member → Bool) (xs : List Member) (w : Member) → Contains xs w → p w ≡ true → Contains (filter p xs) w
-filter-has p [] w on e = absurd (elem-none w on)
-filter-has p (x ∷ xs) w on e = filter-at p x xs w (p x) refl e on (λ later. filter-has p xs w later e)
-
-recent-kept : (id : ℕ) (old new : List Member) → IsMadeRecent id old new → (w : Member) → Contains old w → Contains new w
-recent-kept id old new h w on = subst (λ l. Contains l w) (sym h.split) (here-or-beside {P = Contains (filter (is_beside id) old ++ h.own) w} id w.chain
-    (λ own. Contains-append_right (filter (is_beside id) old) h.own w (h.all w on own))
-    (λ ne. elem-left (filter (is_beside id) old) h.own w (filter-has (is_beside id) old w on (ap not (ne_eqb w.chain id ne)))))
-
-pub touched-reordered : (id : ℕ) (old new : Memory) → IsChainTouched id old new → IsReordered old new
-touched-reordered id old new t = record { kept = recent-kept id old.recency new.recency t.recency; same = t.same; objects = t.objects }
+use Rattle.rc_lookup.specs.calls.Touched.{IsReordered}
+use Rattle.rc_lookup.proofs.Kept.{unchanged}
 
 pub same-reordered : (m : Memory) → IsReordered m m
 same-reordered m = record { kept = λ w on. on; same = refl; objects = unchanged m.region }

@@ -1,7 +1,10 @@
 -- A snapshot of a chain of the cache is taken back, and then the chain is dropped where it is to be.
 use Rattle.std.proofs.Common.{inl, inr, ◌≡◌, ◌≢◌, ◌⊎◌, ◌≤◌, ◌+◌, ℕ, Bool, true, false, List, [], ◌∷◌, Option, Some, None, IsSome, length, refl, sym, ap, ◌∙◌, subst, arith}
-use Rattle.std.specs.Prelude.{Contains, IsSomeAnd, take}
+use Rattle.std.specs.Prelude.{Contains, IsSomeAnd, IsTrue, take}
 use Rattle.lsa_pool.specs.laws.Usages.{decided}
+use Rattle.rc_core.specs.Chain.{has_flag}
+use Rattle.rc_core.specs.Continuity.{static_states}
+use Rattle.rc_core.specs.declared.entries.ChainKind.{ChainKind}
 use Rattle.rc_core.specs.declared.entries.ChainKind.TheVariants.{Cache, Memtable}
 use Rattle.rc_position.specs.Position.{Head}
 use Rattle.rc_core.specs.Chains.{IsPinned, at_place}
@@ -26,8 +29,7 @@ use Rattle.rc_snapshots.specs.laws.Seeing.{snap-then}
 use Rattle.rc_row_cache.specs.Footprint.{AreInUse, HaveOneVersion, cache_snapshots, memtable_bytes}
 use Rattle.rc_lookup.specs.Known.{IsChainKnown, IsPartitionKnown}
 use Rattle.rc_lookup.specs.Rest.{LeavesBut, LeavesRest}
-use Rattle.rc_lookup.specs.calls.Entering.{IsHeldWhole}
-use Rattle.rc_lookup.specs.calls.Known.{IsSnapKnown}
+use Rattle.rc_lookup.specs.Held.{IsHeldWhole}
 use Rattle.rc_lookup.specs.calls.Reading.{without_snap}
 use Rattle.rc_lookup.proofs.Kept.{has-pin, here-or-beside}
 use Rattle.rc_lookup.proofs.Numbered.{chain-beside, chain-here, changed-beside, changed-now}
@@ -197,18 +199,22 @@ take-all : (vs : List Version) → take (length vs) vs ≡ vs
 take-all [] = refl
 take-all (v ∷ vs) = ap (λ us. v ∷ us) (take-all vs)
 
--- what is known to a snapshot that may be filled is to its chain, of which it pins the newest version
-pub held-known : (s : Snap) (x : Memory) (h : HasCacheSnapshot x s.chain s.pin) → IsSnapKnown x s → MayFill x s.chain s.pin → IsPartitionKnown h.chain.chain.kind h.chain.chain.versions
-held-known s x h known may =
+-- in versions the static row is known
+abbrev pub KnowsStatics : ChainKind → List Version → Type 0
+KnowsStatics kind versions = IsTrue (has_flag kind (static_states versions))
+
+-- what holds by what a snapshot sees that may be filled holds of its chain, of which it pins the newest version
+pub held-known : (P : ChainKind → List Version → Type 0) (s : Snap) (x : Memory) (h : HasCacheSnapshot x s.chain s.pin) → P (kind_seen x s) (versions_seen x s) → MayFill x s.chain s.pin → P h.chain.chain.kind h.chain.chain.versions
+held-known P s x h known may =
     let fills : MayPopulate (at_place Head h.chain.chain) h.number =
     subst (λ (o : Option ℕ). IsSomeAnd o (MayPopulate (at_place Head h.chain.chain))) h.pinned (subst (λ (o : Option KeptChain). IsSomeAnd o (λ q. IsSomeAnd (pin_at q.chain.pins s.pin) (MayPopulate (at_place Head q.chain)))) h.there may) in
     let versions : versions_seen x s ≡ h.chain.chain.versions =
     ap (λ o. versions_in o s.pin) h.there ∙ ap (versions_upto h.chain.chain.versions) h.pinned ∙ ap (λ n. take n h.chain.chain.versions) fills.newest ∙ take-all h.chain.chain.versions in
     let kind : kind_seen x s ≡ h.chain.chain.kind = ap kind_in h.there in
-    subst (λ q. IsPartitionKnown q h.chain.chain.versions) kind (subst (IsPartitionKnown (kind_seen x s)) versions known)
+    subst (λ q. P q h.chain.chain.versions) kind (subst (P (kind_seen x s)) versions known)
 
-pub chain-held : (s : Snap) (x : Memory) → HasCacheSnapshot x s.chain s.pin → IsSnapKnown x s → MayFill x s.chain s.pin → IsChainKnown x s.chain
-chain-held s x h known may = subst (λ (o : Option KeptChain). IsSomeAnd o (λ q. IsPartitionKnown q.chain.kind q.chain.versions)) (sym h.there) (held-known s x h known may)
+pub chain-held : (P : ChainKind → List Version → Type 0) (s : Snap) (x : Memory) → HasCacheSnapshot x s.chain s.pin → P (kind_seen x s) (versions_seen x s) → MayFill x s.chain s.pin → IsSomeAnd (chain_at x s.chain) (λ k. P k.chain.kind k.chain.versions)
+chain-held P s x h known may = subst (λ (o : Option KeptChain). IsSomeAnd o (λ q. P q.chain.kind q.chain.versions)) (sym h.there) (held-known P s x h known may)
 
 -- where all of it is known to a snapshot that may be filled, and something of the chain is listed, the chain stays, to whose newest version it is known
 pub known-swept : (s : Snap) (x new : Memory) (h : HasCacheSnapshot x s.chain s.pin) → IsSweptThen s x new h.chain h.there h.cached → IsHeldWhole x s → IsChainKnown new s.chain
@@ -216,5 +222,5 @@ known-swept s x new h swept w = elim swept [
   | inl gone ↦ absurd (gone.0.unlisted 0 (Some end_position) w.listed)
   | inr kept ↦
       let there : chain_at new s.chain ≡ Some (without_snapshot s.pin h.chain) = ap (λ (m : Memory). chain_at m s.chain) kept.1 ∙ back-there s x new h.chain h.there h.cached in
-      subst (λ (o : Option KeptChain). IsSomeAnd o (λ q. IsPartitionKnown q.chain.kind q.chain.versions)) (sym there) (held-known s x h w.known w.may)
+      subst (λ (o : Option KeptChain). IsSomeAnd o (λ q. IsPartitionKnown q.chain.kind q.chain.versions)) (sym there) (held-known IsPartitionKnown s x h w.known w.may)
 ]

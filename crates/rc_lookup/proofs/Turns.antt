@@ -22,8 +22,9 @@ use Rattle.rc_cached.specs.declared.fillers.StreamFiller.{StreamFiller}
 use Rattle.rc_cached.specs.Fillers.{IsStreamFill}
 use Rattle.rc_row_cache.specs.Saying.{AreFillsDone}
 use Rattle.rc_row_cache.specs.Footprint.{AreInUse, HaveOneVersion, cache_snapshots, memtable_bytes}
+use Rattle.rc_lookup.specs.Known.{KnowsStaticRow}
 use Rattle.rc_lookup.specs.Rest.{LeavesRest}
-use Rattle.rc_lookup.specs.calls.Entering.{IsFilledThrough, KnowsStaticRow}
+use Rattle.rc_lookup.specs.calls.Entering.{IsFilledThrough}
 use Rattle.rc_lookup.specs.calls.Filling.{OneFill}
 use Rattle.rc_cached.specs.calls.Parts.{of_its_filler}
 use Rattle.rc_lookup.specs.laws.Lost.{raised-low, raised-top}

@@ -1,28 +1,21 @@
 -- How what is read of the cache becomes the most recent of its recency list.
---     is_beside       a place is of another chain
---     IsMadeRecent    the objects of a chain are the most recent ones
+--     IsHeadOrEnd     a place is that of a static row, or of the end of a partition
 --     IsEntryOfRow, IsLineOf, IsEntryOfGiven    a place is that of a row's entry, or of one of several
 --     AreRecent       the objects at some places are the most recent ones
 --     AreTouched      so they are, and nothing else changed
-use Rattle.std.specs.Prelude.{◌≡◌, ◌⊎◌, ℕ, Bool, not, nat_eq, List, [], ◌∷◌, ◌++◌, Option, Some, None, filter, Contains}
+use Rattle.std.specs.Prelude.{◌≡◌, ◌⊎◌, ℕ, List, [], ◌∷◌, ◌++◌, Option, Some, None, Contains}
 use Rattle.lsa_region.specs.Region.{SameObjects}
 use Rattle.rc_position.specs.declared.comps.Comp.{Comp}
 use Rattle.rc_position.specs.Position.{row_pos}
+use Rattle.rc_core.specs.Version.{end_position}
 use Rattle.rc_query.specs.declared.lines.OutLine.{OutLine}
 use Rattle.rc_query.specs.declared.lines.OutLine.TheVariants as line
 use Rattle.rc_chain.specs.Lives.{IsRemainder}
 use Rattle.rc_memory.specs.Memory.{Member, Memory, listed_as}
 
--- a place is of another chain
-abbrev pub is_beside : ℕ → Member → Bool
-is_beside id w = not (nat_eq w.chain id)
-
--- Of the list the objects of a chain are the most recent ones, all that were in it: they stand behind those of all other chains, which stand in the order in which they stood.
-pub record IsMadeRecent (id : ℕ) (old new : List Member) : Type 0 where
-  pub own : List Member
-  pub split : new ≡ filter (is_beside id) old ++ own
-  pub mine : (w : Member) → Contains own w → (w.chain ≡ id) × Contains old w
-  pub all : (w : Member) → Contains old w → w.chain ≡ id → Contains own w
+-- a place is that of the static row in a version of a chain, or of the end of its partition
+abbrev pub IsHeadOrEnd : ℕ → Member → Type 0
+IsHeadOrEnd id w = (w.chain ≡ id) × ((w.position ≡ None) ⊎ (w.position ≡ Some end_position))
 
 -- a place is that of the entry of a row, in a chain
 abbrev pub IsEntryOfRow : ℕ → List Comp → Member → Type 0

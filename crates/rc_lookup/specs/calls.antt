@@ -1,5 +1,4 @@
 -- What inner functions promise each other.
-pub mod Known
 pub mod Entering
 pub mod Filling
 pub mod Reading

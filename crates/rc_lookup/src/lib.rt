@@ -1,4 +1,4 @@
-//! A partition looked up in the row cache, whole, and put into it.
+//! A partition looked up in the row cache, and put into it.
 #![tactic(auto)]
 
 mod filling;
@@ -11,7 +11,7 @@ mod touching;
 
 pub use keeping::keep_recent;
 pub use looking::take_known;
-pub use populating::take_populated;
+pub use populating::{populate, take_populated};
 pub use rc_row_cache::{
     Chains, RowCache, Snap, Unstored, entries_laws, evict_laws, footprint, laws as row_cache_laws,
     snapshots_laws, unstored_laws,

@@ -19,12 +19,12 @@ ghost use Rattle.rc_cacheread.specs.Passing.{IsKnownOver};
 ghost use Rattle.rc_snapshots.specs.Streams.{first_position};
 ghost use Rattle.rc_row_cache.specs.Calls.{below_entry};
 ghost use Rattle.rc_row_cache.specs.Saying.{Below, CacheSays, phase_pinned};
-ghost use Rattle.rc_lookup.specs.Held.{IsHeldOf};
+ghost use Rattle.rc_lookup.specs.Held.{IsHeldOf, IsHeldWhole};
 ghost use Rattle.rc_lookup.specs.Known.{IsChainKnown};
 ghost use Rattle.rc_lookup.specs.Rest.{LeavesBut, LeavesRest};
 ghost use Rattle.rc_lookup.specs.Staying.{IsEntryStill};
 ghost use Rattle.rc_lookup.specs.Looked.{IsCacheOver};
-ghost use Rattle.rc_lookup.specs.calls.Entering.{IsFilledThrough, IsHeldWhole, IsPartlyHeld};
+ghost use Rattle.rc_lookup.specs.calls.Entering.{IsFilledThrough, IsPartlyHeld};
 
 use crate::filling::fill_all;
 use rc_cached::StreamFiller;
@@ -245,6 +245,7 @@ pub fn take_populated<const S: usize>(
     requires over { (schema : SchemaValue) × (below : Below) × IsCacheOver S schema below chains.old × ChangeFits schema read.now }
     ensures known { OnOk result (NoneLost (losses chains.old) (losses chains.new) → IsSomeAnd (entry_number cache.new.entries key.now) (IsChainKnown chains.new)) }
     ensures taken { IfOk result (λ o. IfSome o (IsHeldOf key.now cache.new.entries chains.old chains.new)) }
+    ensures whole { IfOk result (λ o. IfSome o (λ s. NoneLost (losses chains.old) (losses chains.new) → IsHeldWhole chains.new s)) }
     ensures apart { IfOk result (λ o. IfSome o (λ s. (pin : ℕ) → HasCacheSnapshot chains.old s.chain pin → ⊥)) }
     ensures apart_err { OnErr result ((id pin : ℕ) → entry_number cache.new.entries key.now ≡ Some id → HasCacheSnapshot chains.old id pin → ⊥) }
     ensures absent { IfOk result (λ o. IfNone o (entry_number cache.new.entries key.now ≡ None)) }
@@ -259,4 +260,37 @@ pub fn take_populated<const S: usize>(
 {
     forget_entry(cache, chains, key);
     enter_read(alloc, cache, chains, key, read)
+}
+
+/// Puts what was read of a partition into the row cache, as `take_populated` does, and hands out no snapshot. The only error is want of memory: then the cache has some of it, or nothing.
+pub fn populate<const S: usize>(
+    alloc: Global,
+    cache: &mut RowCache,
+    chains: &mut Chains<S>,
+    key: &PartKey,
+    read: &Mutation,
+) -> Result<(), AllocError>
+    requires entries { AreEntries cache.old.entries chains.old }
+    requires roomy { 8952 ≤ 7 * S / 8 }
+    requires over { (schema : SchemaValue) × (below : Below) × IsCacheOver S schema below chains.old × ChangeFits schema read.now }
+    ensures known { OnOk result (NoneLost (losses chains.old) (losses chains.new) → IsSomeAnd (entry_number cache.new.entries key.now) (IsChainKnown chains.new)) }
+    ensures apart { (id pin : ℕ) → entry_number cache.new.entries key.now ≡ Some id → HasCacheSnapshot chains.old id pin → ⊥ }
+    ensures loses { LosesWhereCrowded S 1 chains.old chains.new }
+    ensures rest { LeavesRest chains.old chains.new }
+    ensures says { (schema : SchemaValue) (below : Below) (writes : Sequence Change) → IsCacheOver S schema below chains.old → All (ChangeFits schema) writes → SameSource (read.now ∷ []) writes →
+        CacheSays schema (below_entry (entry_number cache.new.entries key.now) (λ _. writes) below) chains.new }
+    ensures entries { AreEntries cache.new.entries chains.new }
+    ensures others { (q : Sequence ℕ) (id : ℕ) → entry_number cache.new.entries q ≡ Some id → (q ≡ key.now → ⊥) → entry_number cache.old.entries q ≡ Some id }
+    ensures stays { OnOk result (NoneLost (losses chains.old) (losses chains.new) → (q : Sequence ℕ) → (q ≡ key.now → ⊥) → IsEntryStill q cache.old.entries chains.old cache.new.entries chains.new) }
+{
+    what_leaves_the_caches_chains_leaves_the_entries();
+    chains.known();
+    match take_populated(alloc, cache, chains, key, read) {
+        Ok(Some(snap)) => {
+            give_up(chains, snap);
+            Ok(())
+        }
+        Ok(None) => Ok(()),
+        Err(error) => Err(error),
+    }
 }

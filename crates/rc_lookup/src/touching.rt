@@ -1,13 +1,17 @@
 //! What is read becomes the most recent.
-ghost use Rattle.std.specs.Prelude.{◌+◌};
-ghost use Rattle.rc_memory.specs.Memory.{HasChain, HasVersion, IsMemberObject, Member, Memory};
-ghost use Rattle.rc_lookup.specs.calls.Touched.{IsChainTouched};
-ghost use Rattle.rc_lookup.specs.calls.Recent.{IsEntryOfVersionOrNewer, IsOfVersionOrNewer, IsRaising, IsTurnedAlone};
+ghost use Rattle.std.specs.Prelude.{◌≡◌, None, Some};
+ghost use Rattle.rc_core.specs.Version.{end_position};
+ghost use Rattle.rc_memory.specs.Changes.{member_at};
+ghost use Rattle.rc_memory.specs.Memory.{HasChain, HasVersion, IsMemberObject, Member};
+ghost use Rattle.rc_lookup.specs.Touched.{AreTouched, IsHeadOrEnd};
+ghost use Rattle.rc_lookup.specs.calls.Recent.{IsTurnedAlone};
 
-use lsa_region::{End, Ref};
-use lsa_tree::Tree;
+use crate::places::bare;
+use lsa_region::Ref;
 use rc_chain::Chains;
-use rc_version::static_row;
+use rc_position::Weight;
+use rc_version::{entry_at, static_row};
+use std::alloc::Global;
 
 // Makes an object the most recent one, if it is in the recency list.
 pub(crate) fn touch_listed<const S: usize>(chains: &mut Chains<S>, r: Ref)
@@ -19,10 +23,10 @@ pub(crate) fn touch_listed<const S: usize>(chains: &mut Chains<S>, r: Ref)
     }
 }
 
-// Makes the static row of a version of a chain the most recent object.
+// Makes the static row of a version of a chain the most recent object, if it is in the recency list.
 fn touch_static<const S: usize>(chains: &mut Chains<S>, id: u64, number: u64)
     requires { HasVersion chains.old id number }
-    ensures { (first : Memory) → IsRaising id (IsOfVersionOrNewer number) first chains.old → IsRaising id (IsEntryOfVersionOrNewer number) first chains.new }
+    ensures { AreTouched (λ w. w ≡ member_at id number None) chains.old chains.new }
 {
     chains.known();
     chains.places_stand();
@@ -32,40 +36,28 @@ fn touch_static<const S: usize>(chains: &mut Chains<S>, id: u64, number: u64)
     }
 }
 
-// Makes the entries of a version of a chain the most recent objects, one after another.
-fn touch_entries<const S: usize>(chains: &mut Chains<S>, id: u64, number: u64)
+// Makes the end of the partition in a version of a chain the most recent object, if it is in the recency list.
+fn touch_end<const S: usize>(alloc: Global, chains: &mut Chains<S>, id: u64, number: u64)
     requires { HasVersion chains.old id number }
-    ensures { (first : Memory) → IsRaising id (IsEntryOfVersionOrNewer number) first chains.old → IsRaising id (IsOfVersionOrNewer (number + 1)) first chains.new }
+    ensures { AreTouched (λ w. w ≡ member_at id number (Some end_position)) chains.old chains.new }
 {
     chains.known();
     chains.places_stand();
-    chains.region().known();
     let v = chains.version(id, number);
-    let tree = Tree {
-        top: End::Obj(v, 2),
-    };
-    let mut next = tree.first(chains.region());
-    for steps in 0..chains.region().objects() {
-        match next {
-            None => return,
-            Some(e) => {
-                chains.places_stand();
-                next = tree.next(chains.region(), e);
-                touch_listed(chains, e);
-            }
-        }
+    let end = bare(alloc, Weight::After);
+    if let Some(e) = entry_at(chains.region(), v, &end) {
+        touch_listed(chains, e);
     }
 }
 
-/// Makes all objects of a chain that are in the recency list the most recent ones, in the order of their places: version by version the static row, and then the entries.
-pub(crate) fn touch_all<const S: usize>(chains: &mut Chains<S>, id: u64)
+/// Makes the static row of a partition and its end, in the versions of a chain, the most recent objects, those that are in the recency list.
+pub(crate) fn touch_head_and_end<const S: usize>(alloc: Global, chains: &mut Chains<S>, id: u64)
     requires { HasChain chains.old id }
-    ensures { IsChainTouched id chains.old chains.new }
+    ensures { AreTouched (IsHeadOrEnd id) chains.old chains.new }
 {
     chains.known();
     for number in 0..chains.versions(id) {
         touch_static(chains, id, number);
-        touch_entries(chains, id, number);
+        touch_end(alloc, chains, id, number);
     }
-    chains.known();
 }

@@ -1,3 +1,4 @@
+pub mod Along
 pub mod Behind
 pub mod Called
 pub mod Cutting
@@ -11,6 +12,7 @@ pub mod OfForms
 pub mod OfSlices
 pub mod OneAnswer
 pub mod Paged
+pub mod Passing
 pub mod Quiet
 pub mod Saying
 pub mod Served

@@ -1,7 +1,19 @@
 -- What is left of the snapshots after a page.
-use Rattle.std.proofs.Common.{◌≡◌, ℕ, Bool, false, List, Option, Some, None, refl, sym, ap, subst, ◌∙◌}
+use Rattle.std.proofs.Common.{◌≡◌, ℕ, Bool, false, List, [], ◌∷◌, take, Option, Some, None, refl, sym, ap, subst, inl, inr, ◌∙◌}
 use Rattle.std.specs.Option.{IfSome, IsSome, option_or}
 use Rattle.rc_mutation.specs.declared.mutations.Mutation.{Mutation}
+use Rattle.rc_position.specs.declared.positions.Pos.{Pos}
+use Rattle.rc_position.specs.Position.{IsBefore}
+use Rattle.rc_core.specs.Version.{end_position}
+use Rattle.rc_stream.specs.Places.{Reaches}
+use Rattle.rc_cacheread.specs.Passing.{IsKnownFrom, IsKnownOver}
+use Rattle.rc_cacheread.specs.laws.Orders.{either-way, never-before, reach-through}
+use Rattle.rc_position.specs.declared.slices.Slice.{Slice}
+use Rattle.rc_query.specs.declared.lines.OutLine.{OutLine}
+use Rattle.rc_query.specs.declared.lines.OutLine.TheVariants as line
+use Rattle.rc_cursor.specs.Snapshots.{Knows}
+use Rattle.rc_cacheread.specs.Spots.{stand}
+use Rattle.rc_cacheread.specs.laws.Passing.{over-less}
 use Rattle.rc_memory.specs.Memory.{Memory}
 use Rattle.rc_chain.specs.declared.chains.Snap.{Snap}
 use Rattle.rc_stream.specs.Stream.{Stream}
@@ -15,9 +27,9 @@ use Rattle.rc_paging.specs.declared.layers.HeldSnaps.{HeldSnaps}
 use Rattle.rc_paging.specs.declared.memtables.MemtableStream.{MemtableStream}
 use Rattle.rc_paging.specs.declared.pages.PageErr.TheVariants.{Missing, NoMemory}
 use Rattle.rc_paging.specs.calls.Layers.{AreLayersOf, IsCacheLayerOf, IsMemtableLayerOf, OfLayers, active_in, cache_snap_in, cached_in, held_in, memtable_snap_in, sealed_in}
-use Rattle.rc_paging.specs.Pages.{StandCached, StandFor, readings_with}
+use Rattle.rc_paging.specs.Pages.{IsPassedOf, StandCached, StandFor, page_end, readings_with}
 use Rattle.rc_paging.specs.calls.Pages.{why}
-use Rattle.rc_paging.specs.calls.Keeping.{KeptLayers}
+use Rattle.rc_paging.specs.calls.Keeping.{IsStreamPassedTo, KeptLayers}
 use Rattle.rc_paging.specs.calls.Words.{IsReadIn, IsReaderIn}
 
 -- ---- the snapshots of layers
@@ -85,3 +97,28 @@ stand_over S held m n below writes later law cached same stand = record {
   sealed = law writes m n held.written.sealed same.sealed stand.sealed;
   active = law later m n held.written.active same.active stand.active;
 }
+
+-- ---- what was passed
+
+-- a page looks up to the same place for its next line alone
+pub next_alone : (lines : List OutLine) (slice : Slice) → page_end (take 1 lines) slice ≡ page_end lines slice
+next_alone [] slice = refl
+next_alone (line.Static values ∷ lines) slice = refl
+next_alone (line.Row key values ∷ lines) slice = refl
+
+-- up to where a stream stands each position is known, and that is behind y, or where the partition ends
+by_place : (r : OfCache) (m : Memory) (w : Readings) (x y : Pos) (h : IsStreamPassedTo x y m w r) → IsKnownOver (Knows m h.whole.passed.snap) x (stand r.spot) → (z : Pos) → Reaches x z → Reaches z y → IsBefore z end_position → IsKnownFrom (Knows m h.whole.passed.snap) x z
+by_place r m w x y h d z from upto before =
+    let place = stand r.spot in
+    elim h.behind as (λ _. IsKnownFrom (Knows m h.whole.passed.snap) x z) [
+      | inl b ↦ d z from (elim (either-way place z) as (λ _. IsBefore z place) [ inl k ↦ absurd (never-before y place (reach-through place z y k upto) b) | inr c ↦ c ])
+      | inr e ↦ over-less (Knows m h.whole.passed.snap) x end_position place e d z from before
+    ]
+
+-- what the stream of a snapshot passed is known to it
+pub passed_of : (snap : Option Snap) (c : Option OfCache) (m : Memory) (w : Readings) (x y : Pos) → IsCacheLayerOf snap c → IfSome c (IsStreamPassedTo x y m w) → IfSome snap (IsPassedOf m x y)
+passed_of None c m w x y is h = tt
+passed_of (Some s) None m w x y is h = absurd is
+passed_of (Some s) (Some r) m w x y is h =
+    let p = h.whole.passed in
+    subst (IsPassedOf m x y) (sym p.of.snap ∙ is.snap) (λ may low. record { static_row = h.whole.static_row may low; each = by_place r m w x y h (p.each may low) })

@@ -1,5 +1,6 @@
 //! A reader of a partition in one of its two forms.
 ghost use Rattle.std.specs.Prelude.{◌≡◌, ◌++◌, ⊤, List, None, IfErr, IfOk, IsSome, OnErr, OnOk, length, take, nat_lt};
+ghost use Rattle.std.specs.Option.{option_map};
 ghost use Rattle.rc_position.specs.declared.slices.Slice.{Slice};
 ghost use Rattle.rc_mutation.specs.declared.mutations.Mutation.{Mutation as Change};
 ghost use Rattle.rc_schema.specs.SchemaValue.{SchemaValue};
@@ -9,7 +10,7 @@ ghost use Rattle.rc_cached.specs.Leaving.{LeavesChains};
 ghost use Rattle.rc_cached.specs.Streams.{SayBelow};
 ghost use Rattle.rc_paging.specs.declared.pages.PageErr.TheVariants.{Missing, NoMemory};
 ghost use Rattle.rc_paging.specs.Forms.{ByForm, IsFormKept, held_by, lines_gone_past};
-ghost use Rattle.rc_paging.specs.Pages.{IsPageKnown, StandFor, left_on, readings_with};
+ghost use Rattle.rc_paging.specs.Pages.{IsPageKnown, IsPagePassed, StandFor, left_on, readings_with};
 ghost use Rattle.rc_paging.specs.Remainders.{IsRemainderOf};
 
 use crate::layers::{HeldSnaps, none_there};
@@ -50,7 +51,7 @@ impl<const S: usize> LeavesOver<Chains<S>> for PartReader {
 }
 
 impl PartReader {
-    /// Gives the first lines that are left, at most `count`, and whether there are more behind them. What was read of the tables of the partition, from its beginning, may be handed in; past the cache it is let go. `PageErr::Missing` when it is needed and was not, which is only over the row cache; `PageErr::NoMemory` when memory is refused: then none is given, and the same are left. Where nothing was handed in, nothing is filled: the chains are as they were.
+    /// Gives the first lines that are left, at most `count`, and whether there are more behind them. What was read of the tables of the partition, from its beginning, may be handed in; past the cache it is let go. `PageErr::Missing` when it is needed and was not, which is only over the row cache; `PageErr::NoMemory` when memory is refused: then none is given, and the same are left. Where nothing was handed in, nothing is filled: the chains are as they were, and what a page that was given passed of the row cache was known to its snapshot.
     pub fn read<const S: usize>(
         &mut self,
         alloc: Global,
@@ -67,6 +68,7 @@ impl PartReader {
         ensures goes { IsFormKept result self.old self.new }
         ensures missing { IfErr result (λ e. e ≡ Missing → IsSome (held_by self.old).cached × (read ≡ None)) }
         ensures known { (below : List Change) (lines : List OutLine) → ⟦<PartReader as LeavesOver<Chains<S>>>⟧.lines self.old chains.old below lines → SayBelow below (readings_with read) → ByForm (λ o. IsPageKnown chains.old o count lines) (λ _. ⊤) self.old → IfErr result (λ e. e ≡ NoMemory) }
+        ensures passed { (below : List Change) (lines : List OutLine) → ⟦<PartReader as LeavesOver<Chains<S>>>⟧.lines self.old chains.old below lines → SayBelow below (readings_with read) → read ≡ None → OnOk result (ByForm (λ o. IsPagePassed chains.old o count lines) (λ _. ⊤) self.old) }
         ensures unread { read ≡ None → chains.new ≡ chains.old }
         ensures chains { LeavesChains chains.old chains.new }
     {
@@ -105,6 +107,16 @@ impl PartReader {
                 }
                 Err(error) => Err(error),
             },
+        }
+    }
+
+    /// The number of the chain of the row cache that it reads over, where it does.
+    pub fn cached_chain(&self) -> Option<u64>
+        ensures { result ≡ option_map (λ s. s.chain) (held_by self.now).cached }
+    {
+        match self {
+            PartReader::Cached(reader) => reader.held.cached.as_ref().map(|snap| snap.chain),
+            PartReader::Past(_) => None,
         }
     }
 

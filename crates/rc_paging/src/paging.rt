@@ -1,5 +1,5 @@
 // One page of what is left of a slice.
-ghost use Rattle.std.specs.Prelude.{◌≡◌, ◌+◌, ◌++◌, List, Option, IfOk, IfSome, length, take, drop, nat_lt};
+ghost use Rattle.std.specs.Prelude.{◌≡◌, ◌+◌, ◌++◌, List, Option, None, IfOk, IfSome, OnOk, length, take, drop, nat_lt};
 ghost use Rattle.rc_position.specs.declared.positions.Pos.{Pos};
 ghost use Rattle.rc_chain.specs.declared.chains.Snap.{Snap};
 ghost use Rattle.rc_mutation.specs.declared.mutations.Mutation.{Mutation};
@@ -11,7 +11,7 @@ ghost use Rattle.rc_cached.specs.Streams.{SayBelow};
 ghost use Rattle.rc_reader.specs.Left.{AreLeft, slice_lines};
 ghost use Rattle.rc_reader.specs.Steps.{AreFoundBefore, GoesNoFurther, MayGive};
 ghost use Rattle.rc_stream.specs.Stream.{Stream};
-ghost use Rattle.rc_paging.specs.calls.Keeping.{AreAhead, AreBegun, IsQuiet, KeptLayers};
+ghost use Rattle.rc_paging.specs.calls.Keeping.{AreAhead, AreBegun, ArePassed, ArePassedWhole, IsQuiet, KeptLayers};
 ghost use Rattle.rc_paging.specs.calls.Layers.{OfLayers, cached_in};
 ghost use Rattle.rc_paging.specs.calls.Words.{IsStaticKnownIn};
 ghost use Rattle.rc_paging.specs.Pages.{IsStretchKnown, StandFor, page_end};
@@ -51,7 +51,8 @@ fn page<const S: usize>(
     ensures ready { ⟦<Layers as Frags<Chains<S>, Readings>>⟧.ready result.0 chains.new readings.new }
     ensures kept { KeptLayers S (layers, chains.old, readings.old) (result.0, chains.new, readings.new) }
     ensures quiet { (y : Pos) (snap : Option Snap) → AreFoundBefore (⟦<Layers as Frags<Chains<S>, Readings>>⟧.seen layers chains.old readings.old) slice.now (passed + count) y → AreAhead slice.now.from y snap (layers, chains.old, readings.old) → IsStaticKnownIn chains.old (cached_in layers) →
-        IsQuiet (layers, chains.old, readings.old) (result.0, chains.new, readings.new) }
+        IsQuiet (layers, chains.old, readings.old) (result.0, chains.new, readings.new) × OnOk result.1 (AreAhead slice.now.from y snap (result.0, chains.new, readings.new)) }
+    ensures passed { ArePassed slice.now.from (layers, chains.old, readings.old) → OnOk result.1 (ArePassedWhole slice.now.from (result.0, chains.new, readings.new)) }
 {
     a_cached_stream_leaves_what_others_see::<S>();
     a_cached_stream_misses_only_what_is_not_known::<S>();
@@ -81,7 +82,9 @@ pub(crate) fn paged<const S: usize>(
     ensures ready { ⟦<Layers as Frags<Chains<S>, Readings>>⟧.ready result.0 chains.new readings.new }
     ensures kept { (s : OfLayers) × AreBegun S held chains.old readings.old s × KeptLayers S (s, chains.old, readings.old) (result.0, chains.new, readings.new) }
     ensures quiet { (schema : SchemaValue) (below writes later : List Mutation) → AreChangesOf schema below → AreChangesOf schema writes → AreChangesOf schema later → StandFor S chains.old held below writes later → SayBelow below readings.old →
-        IfSome held.cached (IsStretchKnown chains.old slice.now.from (page_end (drop count (drop passed (answer (below ++ (writes ++ later)) slice.now))) slice.now)) → readings.new ≡ readings.old }
+        IfSome held.cached (IsStretchKnown chains.old slice.now.from (page_end (drop count (drop passed (answer (below ++ (writes ++ later)) slice.now))) slice.now)) →
+        (readings.new ≡ readings.old) × OnOk result.1 (AreAhead slice.now.from (page_end (drop count (drop passed (answer (below ++ (writes ++ later)) slice.now))) slice.now) held.cached (result.0, chains.new, readings.new)) }
+    ensures passed { readings.old.list ≡ None → OnOk result.1 (ArePassedWhole slice.now.from (result.0, chains.new, readings.new)) }
 {
     an_answer_is_cut_behind_each_line();
     the_lines_on_each_side_are_those_of_a_part();
@@ -108,7 +111,8 @@ fn behind_passed<const S: usize>(
     ensures ready { ⟦<Layers as Frags<Chains<S>, Readings>>⟧.ready result.0 chains.new readings.new }
     ensures kept { KeptLayers S (reader.stream, chains.old, readings.old) (result.0, chains.new, readings.new) }
     ensures quiet { (x y : Pos) (snap : Option Snap) → GoesNoFurther (⟦<Layers as Frags<Chains<S>, Readings>>⟧.seen reader.stream chains.old readings.old) reader.work (passed + count) y → AreAhead x y snap (reader.stream, chains.old, readings.old) →
-        IsQuiet (reader.stream, chains.old, readings.old) (result.0, chains.new, readings.new) }
+        IsQuiet (reader.stream, chains.old, readings.old) (result.0, chains.new, readings.new) × OnOk result.1 (AreAhead x y snap (result.0, chains.new, readings.new)) }
+    ensures passed { (x : Pos) → ArePassedWhole x (reader.stream, chains.old, readings.old) → OnOk result.1 (ArePassedWhole x (result.0, chains.new, readings.new)) }
 {
     a_cached_stream_leaves_what_others_see::<S>();
     a_cached_stream_misses_only_what_is_not_known::<S>();
@@ -138,7 +142,8 @@ fn with_behind<const S: usize>(
     ensures may { MayGive ⟦<Layers as Frags<Chains<S>, Readings>>⟧.ready reader.new chains.new readings.new }
     ensures kept { KeptLayers S (reader.old.stream, chains.old, readings.old) (reader.new.stream, chains.new, readings.new) }
     ensures quiet { (x y : Pos) (snap : Option Snap) → GoesNoFurther (⟦<Layers as Frags<Chains<S>, Readings>>⟧.seen reader.old.stream chains.old readings.old) reader.old.work count y → AreAhead x y snap (reader.old.stream, chains.old, readings.old) →
-        IsQuiet (reader.old.stream, chains.old, readings.old) (reader.new.stream, chains.new, readings.new) }
+        IsQuiet (reader.old.stream, chains.old, readings.old) (reader.new.stream, chains.new, readings.new) × OnOk result (AreAhead x y snap (reader.new.stream, chains.new, readings.new)) }
+    ensures passed { (x : Pos) → ArePassedWhole x (reader.old.stream, chains.old, readings.old) → OnOk result (ArePassedWhole x (reader.new.stream, chains.new, readings.new)) }
 {
     a_cached_stream_leaves_what_others_see::<S>();
     a_cached_stream_misses_only_what_is_not_known::<S>();

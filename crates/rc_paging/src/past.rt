@@ -1,9 +1,9 @@
 //! An open reader that goes on past the row cache.
-ghost use Rattle.std.specs.Prelude.{◌≡◌, ◌++◌, ◌∷◌, [], List, IfOk, OnErr, OnOk};
+ghost use Rattle.std.specs.Prelude.{◌≡◌, ◌++◌, List, IfOk, OnErr, OnOk};
 ghost use Rattle.rc_query.specs.declared.lines.OutLine.{OutLine as Line};
 ghost use Rattle.rc_mutation.specs.declared.mutations.Mutation.{Mutation as Change};
 ghost use Rattle.rc_mutation.specs.Fragments.{fragments};
-ghost use Rattle.rc_mutation.specs.Source.{IsMutation, source_at_head};
+ghost use Rattle.rc_mutation.specs.Source.{source_at_head};
 ghost use Rattle.rc_schema.specs.SchemaValue.{SchemaValue};
 ghost use Rattle.rc_stream.specs.Stream.{stream_of};
 ghost use Rattle.rc_opened.specs.Behind.{AreOver, lines_behind};

@@ -1,11 +1,6 @@
 -- What a reader gave lines, and what that left, from its place on.
-use Rattle.std.proofs.Common.{◌≡◌, ◌==◌, ◌≤◌, ◌+◌, ◌*◌, ◌++◌, ℕ, List, Option, Some, None, inl, inr, length, filter, position, get_or, set, refl, sym, ap, subst, ◌∙◌, arith}
-use Rattle.std.specs.Prelude.{Bool, IfSome}
-use Rattle.std.specs.List.{list_any}
-use Rattle.std.specs.Ordering.{eq_by_cmp}
-use Rattle.std.proofs.lemmas.List.{length-append}
-use Rattle.std.proofs.lemmas.List.Elements.{filter-append}
-use Rattle.rc_position.specs.Position.{bytes_cmp}
+use Rattle.std.proofs.Common.{◌≡◌, ◌==◌, ◌≤◌, ◌+◌, ◌*◌, ℕ, List, Option, Some, None, inl, inr, length, position, get_or, set, refl, sym, ap, subst, ◌∙◌, arith}
+use Rattle.std.specs.Prelude.{Bool, IfSome, IsSomeAnd}
 use Rattle.std.specs.Option.{option_map_or}
 use Rattle.std.specs.Map.{lookup}
 use Rattle.rc_outside.specs.Files.{Files}
@@ -13,40 +8,47 @@ use Rattle.rc_writes.specs.Allowed.{ChangeFits}
 use Rattle.rc_mutation.specs.declared.mutations.Mutation.{Mutation}
 use Rattle.rc_mutation.specs.Source.{IsJoinOf, IsMutation}
 use Rattle.rc_query.specs.declared.lines.OutLine.{OutLine}
+use Rattle.rc_folder.specs.declared.counts.Answered.{Answered}
+use Rattle.rc_lines.specs.declared.commands.Command.{Command}
+use Rattle.rc_lines.specs.declared.commands.Command.TheVariants as commands
 use Rattle.rc_lines.specs.declared.commands.Command.TheVariants.{Read}
 use Rattle.rc_lines.specs.declared.commands.Reply.{Reply}
 use Rattle.rc_lines.specs.declared.commands.Reply.TheVariants as replies
 use Rattle.rc_memory.specs.Memory.{Memory}
 use Rattle.rc_chain.specs.declared.chains.Snap.{Snap}
 use Rattle.rc_stream.specs.Snapshot.{NoneLost}
-use Rattle.rc_tfile.specs.declared.info.TableInfo.{TableInfo}
 use Rattle.rc_tables.specs.Tables.{listing}
+use Rattle.lsa_pool.specs.Room.{live_sum}
+use Rattle.rc_lookup.specs.Crowding.{LosesWhereCrowded, versions_of}
+use Rattle.rc_lookup.specs.Crowds.{loses-same}
 use Rattle.rc_lookup.specs.Entries.{AreEntries}
 use Rattle.rc_lookup.specs.Fillers.{losses}
 use Rattle.rc_lookup.specs.Found.{entry_number}
 use Rattle.rc_lookup.specs.NoMore.{counts-same, counts-then}
 use Rattle.rc_lookup.specs.Touched.{AreTouched, IsEntryOfGiven}
 use Rattle.rc_paging.specs.declared.forms.PartReader.{PartReader}
-use Rattle.rc_paging.specs.declared.layers.HeldSnaps.{HeldSnaps}
+use Rattle.rc_paging.specs.declared.forms.PartReader.TheVariants.{Cached, Past}
+use Rattle.rc_paging.specs.Forms.{held_by}
 use Rattle.rc_machine.specs.State.{Reader, State, reader_of}
 use Rattle.rc_folder.specs.Tabled.{IsSaidByFirst}
-use Rattle.rc_machine.specs.Standing.{IsOver}
 use Rattle.rc_machine.specs.Serving.{Stops, Takes}
 use Rattle.rc_machine.specs.Steps.{reader_past}
 use Rattle.rc_shard.specs.declared.readers.PartitionReader.{PartitionReader}
 use Rattle.rc_shard.specs.declared.shard.Shard.{Shard}
-use Rattle.rc_shard.specs.Knowing.{IsCachedWhere, IsGonePast, IsKnownStill, IsPartitionListed, IsReaderTouched, IsTouchedAsGiven, StaysKnown}
+use Rattle.rc_shard.specs.Filling.{HoldsCached, IsFilledAsTold, IsHeldByReader}
+use Rattle.rc_shard.specs.Knowing.{IsCachedWhere, IsCachedWhole, IsKnownStill, IsPartitionListed, IsPastNow, IsReaderTouched, IsTouchedAsGiven, StaysKnown}
 use Rattle.rc_shard.specs.Readers.{cached_of}
-use Rattle.rc_shard.specs.Releasing.{IsSnapGivenBack}
 use Rattle.rc_shard.specs.Stands.{Stands}
 use Rattle.rc_shard.specs.calls.Caching.{LeavesCache}
 use Rattle.rc_shard.specs.calls.Keeping.{CountsStay, StandsForTheSame}
-use Rattle.rc_shard.specs.calls.Reading.{IsBesideChains, IsGoneOn, IsGonePastAt, IsPaged, IsPagedBeside, with_reader}
+use Rattle.rc_shard.specs.calls.Looking.{KeepsOver}
+use Rattle.rc_shard.specs.calls.Reading.{IsSparedPast, IsBesideChains, IsGoneOn, IsGonePastAt, IsPaged, IsPagedBeside, IsPastReader, IsPutPast, IsReadOfFirst, IsRefilled, IsTouchedPast, with_reader}
 use Rattle.rc_shard.proofs.Caching.{leaves-itself}
 use Rattle.rc_shard.proofs.Closing.{lost-past, past-rest}
 use Rattle.rc_shard.proofs.Known.{AreGone, back-known, known-then, known-where}
+use Rattle.rc_shard.proofs.Listed.{fewer-listed}
 use Rattle.rc_shard.proofs.Places.{IsPlace, one-of, own-place, place-of, position-set, set-place}
-use Rattle.rc_shard.proofs.Rereading.{reader-at, touched-as-given}
+use Rattle.rc_shard.proofs.Rereading.{reader-at, same-some, touched-as-given}
 use Rattle.rc_shard.proofs.Taking.{found-at, to-files}
 
 -- ---- places
@@ -120,6 +122,9 @@ untold-counts k k' u = record { answered = u.answered; segments = u.segments; as
 pub given-counts : (d : ℕ × PartitionReader) (lines : List OutLine) (k k' : Shard) → IsGiven d lines k k' → CountsStay k k'
 given-counts d lines k k' g = record { answered = g.answered; segments = g.segments; asked = g.asked; none_fell = counts-same k.unstored.chains k'.unstored.chains g.counts g.touched.objects.moved }
 
+pub given-loses : (d : ℕ × PartitionReader) (lines : List OutLine) (k k' : Shard) → IsGiven d lines k k' → LosesWhereCrowded 131072 0 k.unstored.chains k'.unstored.chains
+given-loses d lines k k' g = loses-same 131072 k.unstored.chains k'.unstored.chains (ap length g.touched.objects.usages) (ap live_sum g.touched.objects.usages) (ap versions_of g.touched.same) g.counts
+
 -- a reader went on past the row cache
 pub gone-counts : (at : ℕ) (d : ℕ × PartitionReader) (k l : Shard) → IsGonePastAt at d k l → CountsStay k l
 gone-counts at d k l g = record { answered = g.answered; segments = g.segments; asked = g.asked; none_fell = (past-rest (cached_of d.1) k.unstored.chains l.unstored.chains g.past).fell }
@@ -144,73 +149,148 @@ pub stays-behind : (id count : ℕ) (k q k' : Shard) → IsUntold k q → StaysK
 stays-behind id count k q k' u stays none key listed =
     known-then k q k' key (untold-known k q u key) (stays (subst (λ v. NoneLost (losses v.chains) (losses k'.unstored.chains)) (sym u.unstored) none) key (listed-in k q key u listed))
 
-pub stays-untold : (id count : ℕ) (k k' : Shard) → IsUntold k k' → StaysKnown (Read id count) k k'
-stays-untold id count k k' u none key listed = untold-known k k' u key
-
 pub stays-given : (id count : ℕ) (d : ℕ × PartitionReader) (lines : List OutLine) (k k' : Shard) → AreEntries k.cache.entries k.unstored.chains → AreGone k.unstored.chains → IsGiven d lines k k' → StaysKnown (Read id count) k k'
-stays-given id count d lines k k' are gone g none key listed = back-known None k k' k.unstored.chains key are gone g.cache refl g.left none listed
+stays-given id count d lines k k' are gone g none key listed = back-known None k k' k.unstored.chains key are gone g.cache refl g.left none (inl listed)
 
--- so it is once a reader went on past the row cache, of partitions of which something could be evicted
-pub stays-gone : (id count at : ℕ) (d x : ℕ × PartitionReader) (lines : List OutLine) (k l k' : Shard) → AreEntries k.cache.entries k.unstored.chains → AreGone k.unstored.chains → IsGonePastAt at d k l → IsGiven x lines l k' → StaysKnown (Read id count) k k'
-stays-gone id count at d x lines k l k' are gone p g none key listed =
+-- so it is once a reader went on past the row cache, of partitions of other chains and of those of which something could be evicted
+pub known-gone : (at : ℕ) (d x : ℕ × PartitionReader) (lines : List OutLine) (k l k' : Shard) (key : List ℕ) → AreEntries k.cache.entries k.unstored.chains → AreGone k.unstored.chains → IsGonePastAt at d k l → IsGiven x lines l k' → IsSparedPast (cached_of d.1) k key → NoneLost (losses k.unstored.chains) (losses k'.unstored.chains) → IsKnownStill key k k'
+known-gone at d x lines k l k' key are gone p g apart none =
     let rest = past-rest (cached_of d.1) k.unstored.chains l.unstored.chains p.past in
-    back-known (cached_of d.1) k k' l.unstored.chains key are gone (g.cache ∙ p.cache) p.past g.left (lost-past k.unstored.chains l.unstored.chains k'.unstored.chains rest.counts none) listed
+    back-known (cached_of d.1) k k' l.unstored.chains key are gone (g.cache ∙ p.cache) p.past g.left (lost-past k.unstored.chains l.unstored.chains k'.unstored.chains rest.counts none) apart
 
-pub stays-past : (id count at : ℕ) (d : ℕ × PartitionReader) (k l k' : Shard) → AreEntries k.cache.entries k.unstored.chains → AreGone k.unstored.chains → IsGonePastAt at d k l → IsUntold l k' → StaysKnown (Read id count) k k'
-stays-past id count at d k l k' are gone p u none key listed =
+pub known-past : (at : ℕ) (d : ℕ × PartitionReader) (k l k' : Shard) (key : List ℕ) → AreEntries k.cache.entries k.unstored.chains → AreGone k.unstored.chains → IsGonePastAt at d k l → IsUntold l k' → IsSparedPast (cached_of d.1) k key → NoneLost (losses k.unstored.chains) (losses k'.unstored.chains) → IsKnownStill key k k'
+known-past at d k l k' key are gone p u apart none =
     let rest = past-rest (cached_of d.1) k.unstored.chains l.unstored.chains p.past in
     back-known (cached_of d.1) k k' l.unstored.chains key are gone (u.cache ∙ p.cache) p.past (subst (λ v. LeavesCache l.unstored.chains v.chains) (sym u.unstored) (leaves-itself l.unstored.chains))
-    (lost-past k.unstored.chains l.unstored.chains k'.unstored.chains rest.counts none) listed
+    (lost-past k.unstored.chains l.unstored.chains k'.unstored.chains rest.counts none) apart
 
 -- ---- what was touched
 
-gone-past : (snap : Option Snap) (m n : Memory) → IsSnapGivenBack snap m n → IsGonePast snap m n
-gone-past None m n same = inl same
-gone-past (Some s) m n r = inr r
-
-as-given : (id count : ℕ) (lines : List OutLine) (more : Bool) (reply : Reply) (k k' : Shard) → reply ≡ replies.Given lines more → IfSome (lookup (λ q. q == id) k.readers.items) (λ o. IsReaderTouched lines o k k') → IsTouchedAsGiven (Read id count) reply k k'
+as-given : (id count : ℕ) (lines : List OutLine) (more : Bool) (reply : Reply) (k k' : Shard) → reply ≡ replies.Given lines more → IfSome (lookup (λ q. q == id) k.readers.items) (λ o. IsReaderTouched id lines o k k') → IsTouchedAsGiven (Read id count) reply k k'
 as-given id count lines more reply k k' is h = subst (λ (r : Reply). IsTouchedAsGiven (Read id count) r k k') (sym is) h
 
 pub touches-given : (id count at : ℕ) (d : ℕ × PartitionReader) (lines : List OutLine) (more : Bool) (reply : Reply) (k k' : Shard) → IsPlace id k.readers.items at → get_or k.readers.items at d ≡ d → reply ≡ replies.Given lines more → IsGiven d lines k k' → IsTouchedAsGiven (Read id count) reply k k'
-touches-given id count at d lines more reply k k' p here is g = as-given id count lines more reply k k' is (touched-as-given id at d lines k k' k.unstored.chains p here (inl refl) g.cache g.touched)
+touches-given id count at d lines more reply k k' p here is g =
+    let touched : AreTouched (IsEntryOfGiven (entry_number k'.cache.entries d.1.key) lines) k.unstored.chains k'.unstored.chains =
+    subst (λ (es : List (List ℕ × ℕ)). AreTouched (IsEntryOfGiven (entry_number es d.1.key) lines) k.unstored.chains k'.unstored.chains) (sym (ap (λ c. c.entries) g.cache)) g.touched in
+    as-given id count lines more reply k k' is (touched-as-given id at d lines k k' p here (record { read = k.unstored.chains; before = inl (g.cache, refl); touched = touched }))
 
-pub touches-gone : (id count at : ℕ) (d : ℕ × PartitionReader) (lines : List OutLine) (more : Bool) (reply : Reply) (k l k' : Shard) → IsPlace id k.readers.items at → get_or k.readers.items at d ≡ d → reply ≡ replies.Given lines more → (p : IsGonePastAt at d k l) → IsGiven (p.reader) lines l k' → IsTouchedAsGiven (Read id count) reply k k'
-touches-gone id count at d lines more reply k l k' place here is p g =
-    let touched : AreTouched (IsEntryOfGiven (entry_number k.cache.entries d.1.key) lines) l.unstored.chains k'.unstored.chains =
-    subst (λ (es : List (List ℕ × ℕ)). AreTouched (IsEntryOfGiven (entry_number es d.1.key) lines) l.unstored.chains k'.unstored.chains) (ap (λ c. c.entries) p.cache)
-    (subst (λ (key : List ℕ). AreTouched (IsEntryOfGiven (entry_number l.cache.entries key) lines) l.unstored.chains k'.unstored.chains) p.key g.touched) in
-    as-given id count lines more reply k k' is (touched-as-given id at d lines k k' l.unstored.chains place here (gone-past (cached_of d.1) k.unstored.chains l.unstored.chains p.past) (g.cache ∙ p.cache) touched)
+-- so they are where the reader reads past the row cache now
+pub touched-past : (id : ℕ) (d x : ℕ × PartitionReader) (lines : List OutLine) (more : Bool) (reply : Reply) (l k' : Shard) → reply ≡ replies.Given lines more → x.1.key ≡ d.1.key → IsPastNow id k' → IsGiven x lines l k' → IsTouchedPast id d.1 reply k'
+touched-past id d x lines more reply l k' is key past g =
+    let touched : AreTouched (IsEntryOfGiven (entry_number k'.cache.entries d.1.key) lines) l.unstored.chains k'.unstored.chains =
+    subst (λ (q : List ℕ). AreTouched (IsEntryOfGiven (entry_number k'.cache.entries q) lines) l.unstored.chains k'.unstored.chains) key
+    (subst (λ (es : List (List ℕ × ℕ)). AreTouched (IsEntryOfGiven (entry_number es x.1.key) lines) l.unstored.chains k'.unstored.chains) (sym (ap (λ c. c.entries) g.cache)) g.touched) in
+    subst (λ (r : Reply). IsTouchedPast id d.1 r k') (sym is) (past, (l.unstored.chains, touched))
 
--- behind a page that was not given it is as in front of it
-reader-touched : (lines : List OutLine) (k q k' : Shard) (d x : PartitionReader) → IsUntold k q → x.key ≡ d.key → cached_of x ≡ cached_of d → IsReaderTouched lines x q k' → IsReaderTouched lines d k k'
-reader-touched lines k q k' d x u key snap t =
-    let read : Memory = t.read in
-    let past : IsGonePast (cached_of d) k.unstored.chains read = subst (λ v. IsGonePast (cached_of d) v.chains read) u.unstored (subst (λ (o : Option Snap). IsGonePast o q.unstored.chains read) snap t.past) in
-    let touched : AreTouched (IsEntryOfGiven (entry_number k.cache.entries d.key) lines) read k'.unstored.chains =
-    subst (λ c. AreTouched (IsEntryOfGiven (entry_number c.entries d.key) lines) read k'.unstored.chains) u.cache (subst (λ (w : List ℕ). AreTouched (IsEntryOfGiven (entry_number q.cache.entries w) lines) read k'.unstored.chains) key t.touched) in
-    record { cache = t.cache ∙ u.cache; read = read; past = past; touched = touched }
+-- behind a page that was not given, and whatever was filled, it is as in front of it
+pub touches-past : (id count at : ℕ) (d : ℕ × PartitionReader) (x : PartitionReader) (reply : Reply) (k k' : Shard) → IsPlace id k.readers.items at → get_or k.readers.items at d ≡ d → x.key ≡ d.1.key → IsTouchedPast id x reply k' → IsTouchedAsGiven (Read id count) reply k k'
+touches-past id count at d x replies.Nothing k k' p here key t = tt
+touches-past id count at d x replies.Fine k k' p here key t = tt
+touches-past id count at d x replies.Going k k' p here key t = tt
+touches-past id count at d x replies.Done k k' p here key t = tt
+touches-past id count at d x (replies.Stats f) k k' p here key t = tt
+touches-past id count at d x (replies.Refused r) k k' p here key t = tt
+touches-past id count at d x (replies.Given lines more) k k' p here key t =
+    touched-as-given id at d lines k k' p here (record { read = t.1.0; before = inr t.0; touched = subst (λ (q : List ℕ). AreTouched (IsEntryOfGiven (entry_number k'.cache.entries q) lines) t.1.0 k'.unstored.chains) key t.1.1 })
 
-pub touches-behind : (id count at : ℕ) (d : ℕ × PartitionReader) (reply : Reply) (k q k' : Shard) → IsPlace id k.readers.items at → IsPlace id q.readers.items at → get_or k.readers.items at d ≡ d → (b : IsPagedBeside at k q) → IsTouchedAsGiven (Read id count) reply q k' → IsTouchedAsGiven (Read id count) reply k k'
-touches-behind id count at d replies.Nothing k q k' p w here b t = tt
-touches-behind id count at d replies.Fine k q k' p w here b t = tt
-touches-behind id count at d replies.Going k q k' p w here b t = tt
-touches-behind id count at d replies.Done k q k' p w here b t = tt
-touches-behind id count at d (replies.Stats f) k q k' p w here b t = tt
-touches-behind id count at d (replies.Refused r) k q k' p w here b t = tt
-touches-behind id count at d (replies.Given lines more) k q k' p w here b t =
-    let x = b.reader in
-    let kept = b.kept d here in
-    let own : IsReaderTouched lines x.1 q k' = subst (λ (o : Option PartitionReader). IfSome o (λ y. IsReaderTouched lines y q k')) (reader-at id at x q.readers.items w (there-now k q id at x p b.readers)) t in
-    subst (λ (o : Option PartitionReader). IfSome o (λ y. IsReaderTouched lines y k k')) (sym (reader-at id at d k.readers.items p here)) (reader-touched lines k q k' d.1 x.1 (untold-of at k q b) kept.1 (ap (λ (g : HeldSnaps). g.cached) kept.3) own)
+-- the reader of an id, past the row cache
+pub past-of : (id at : ℕ) (y : ℕ × PartitionReader) (q k' : Shard) → IsPlace id q.readers.items at → get_or q.readers.items at y ≡ y → IsPastReader y.1.reader → k'.readers ≡ q.readers → IsPastNow id k'
+past-of id at y q k' p here past same =
+    subst (λ rs. IsSomeAnd (lookup (λ i. i == id) rs.items) (λ o. IsPastReader o.reader)) (sym same)
+    (subst (λ (o : Option PartitionReader). IsSomeAnd o (λ z. IsPastReader z.reader)) (sym (reader-at id at y q.readers.items p here)) past)
+
+pub past-was : (id at : ℕ) (y : ℕ × PartitionReader) (q k' : Shard) → IsPlace id q.readers.items at → get_or q.readers.items at y ≡ y → k'.readers ≡ q.readers → IsPastNow id k' → IsPastReader y.1.reader
+past-was id at y q k' p here same now =
+    subst (λ (o : Option PartitionReader). IsSomeAnd o (λ z. IsPastReader z.reader)) (reader-at id at y q.readers.items p here)
+    (subst (λ rs. IsSomeAnd (lookup (λ i. i == id) rs.items) (λ o. IsPastReader o.reader)) same now)
+
+-- ---- what is filled
+
+never-holds : (p : PartReader) (s : Snap) → (held_by p).cached ≡ Some s → IsPastReader p → ⊥
+never-holds (Cached c) s e past = past
+never-holds (Past o) s e past = cc e
+
+-- where a page was given nothing was missing
+pub filled-given : (id count at : ℕ) (d : ℕ × PartitionReader) (lines : List OutLine) (more : Bool) (reply : Reply) (n : ℕ) (k k' : Shard) → IsPlace id k.readers.items at → get_or k.readers.items at d ≡ d → reply ≡ replies.Given lines more → (IsPastNow id k' → IsPastReader d.1.reader) → IsFilledAsTold (Read id count) reply n n k k'
+filled-given id count at d lines more reply n k k' p here is over = subst (λ (r : Reply). IsFilledAsTold (Read id count) r n n k k') (sym is) (λ none o found holds how.
+    let same : o ≡ d.1 = same-some o d.1 _ found (reader-at id at d k.readers.items p here) in
+    absurd (elim how [ inl less ↦ omega (arith, less) | inr past ↦ never-holds d.1.reader holds.snap (sym (ap (λ (x : PartitionReader). cached_of x) same) ∙ holds.held) (over past) ]))
+
+-- where something was, the row cache knows all of the partition
+pub filled-past : (id count at : ℕ) (d : ℕ × PartitionReader) (x : PartitionReader) (reply : Reply) (before now : ℕ) (k q k' : Shard) → IsPlace id k.readers.items at → get_or k.readers.items at d ≡ d → IsUntold k q → x.key ≡ d.1.key → cached_of x ≡ cached_of d.1 → IsPutPast x reply q k' → IsFilledAsTold (Read id count) reply before now k k'
+filled-past id count at d x replies.Nothing before now k q k' p here u key snap put = tt
+filled-past id count at d x replies.Fine before now k q k' p here u key snap put = tt
+filled-past id count at d x replies.Going before now k q k' p here u key snap put = tt
+filled-past id count at d x replies.Done before now k q k' p here u key snap put = tt
+filled-past id count at d x (replies.Stats f) before now k q k' p here u key snap put = tt
+filled-past id count at d x (replies.Refused r) before now k q k' p here u key snap put = tt
+filled-past id count at d x (replies.Given lines more) before now k q k' p here u key snap put = λ none o found holds how.
+    let same : o ≡ d.1 = same-some o d.1 _ found (reader-at id at d k.readers.items p here) in
+    let own : x.key ≡ o.key = key ∙ sym (ap (λ (y : PartitionReader). y.key) same) in
+    let holds-now : HoldsCached q.cache.entries x = record {
+      snap = holds.snap;
+      held = snap ∙ sym (ap (λ (y : PartitionReader). cached_of y) same) ∙ holds.held;
+      entry = ap (λ c. entry_number c.entries x.key) u.cache ∙ ap (entry_number k.cache.entries) own ∙ holds.entry;
+    } in
+    subst (λ (w : List ℕ). IsCachedWhole k' w) own (put (subst (λ v. NoneLost (losses v.chains) (losses k'.unstored.chains)) (sym u.unstored) none) holds-now)
+
+pub put-past : (o : PartitionReader) (reply : Reply) (k k' : Shard) → (NoneLost (losses k.unstored.chains) (losses k'.unstored.chains) → HoldsCached k.cache.entries o → IsCachedWhole k' o.key) → IsPutPast o reply k k'
+put-past o replies.Nothing k k' h = tt
+put-past o replies.Fine k k' h = tt
+put-past o replies.Going k k' h = tt
+put-past o replies.Done k k' h = tt
+put-past o (replies.Stats f) k k' h = tt
+put-past o (replies.Refused r) k k' h = tt
+put-past o (replies.Given lines more) k k' h = h
+
+-- what is told of answers is told of the same shard
+module _ (before now : ℕ) (k l : Shard) (answered : Answered) where
+  abbrev counted : Shard
+  counted = record l { answered = answered }
+
+  held-counted : (id : ℕ) (key : List ℕ) → IsHeldByReader id key l → IsHeldByReader id key counted
+  held-counted id key h = record { reader = h.reader; found = h.found; of_key = h.of_key; holds = h.holds; head = h.head }
+
+  pub filled-counted : (command : Command) (reply : Reply) → IsFilledAsTold command reply before now k l → IsFilledAsTold command reply before now k counted
+  filled-counted commands.Nothing reply h = tt
+  filled-counted (commands.SetSchema schema) reply h = tt
+  filled-counted (commands.Put w) reply h = tt
+  filled-counted (commands.OpenRead id key slice) replies.Nothing h = tt
+  filled-counted (commands.OpenRead id key slice) replies.Fine h = λ none. let f = h none in record { held = held-counted id key f.held; whole = f.whole }
+  filled-counted (commands.OpenRead id key slice) replies.Going h = tt
+  filled-counted (commands.OpenRead id key slice) replies.Done h = tt
+  filled-counted (commands.OpenRead id key slice) (replies.Stats f) h = tt
+  filled-counted (commands.OpenRead id key slice) (replies.Refused r) h = tt
+  filled-counted (commands.OpenRead id key slice) (replies.Given lines more) h = tt
+  filled-counted (commands.Read id count) replies.Nothing h = tt
+  filled-counted (commands.Read id count) replies.Fine h = tt
+  filled-counted (commands.Read id count) replies.Going h = tt
+  filled-counted (commands.Read id count) replies.Done h = tt
+  filled-counted (commands.Read id count) (replies.Stats f) h = tt
+  filled-counted (commands.Read id count) (replies.Refused r) h = tt
+  filled-counted (commands.Read id count) (replies.Given lines more) h = h
+  filled-counted (commands.Close id) reply h = tt
+  filled-counted commands.Flush reply h = tt
+  filled-counted commands.FlushBegin reply h = tt
+  filled-counted (commands.FlushStep count) reply h = tt
+  filled-counted (commands.Evict count) reply h = tt
+  filled-counted (commands.Compact count) reply h = tt
+  filled-counted (commands.Clean count) reply h = tt
+  filled-counted commands.Stats reply h = tt
+
+-- a partition is apart from the reader's chain behind the filling, where something of it could be evicted before
+pub apart-refilled : (o : PartitionReader) (k f : Shard) (key : List ℕ) → IsRefilled o k f → IsPartitionListed k key → IsSparedPast (cached_of o) f key
+apart-refilled o k f key (inl same) listed = inl (subst (λ (x : Shard). IsPartitionListed x key) (sym same.1) listed)
+apart-refilled o k f key (inr put) listed = inr (subst (λ (s : Option Snap). IfSome s (λ t. entry_number f.cache.entries key ≡ Some t.chain → ⊥)) (sym put.holds.held) (put.apart key))
+
+-- what was filled is known once the reader went past the row cache
+pub whole-past : (o : PartitionReader) (k f k' : Shard) → IsRefilled o k f → HoldsCached k.cache.entries o → NoneLost (losses k.unstored.chains) (losses f.unstored.chains) → (IsSparedPast (cached_of o) f o.key → IsKnownStill o.key f k') → IsCachedWhole k' o.key
+whole-past o k f k' (inl same) holds none stays = absurd (same.0 holds)
+whole-past o k f k' (inr put) holds none stays =
+    (stays (inr (subst (λ (s : Option Snap). IfSome s (λ t. entry_number f.cache.entries o.key ≡ Some t.chain → ⊥)) (sym put.holds.held) (put.apart o.key)))).whole (put.whole none)
 
 -- ---- how often the store is asked
-
-fewer-listed : (key : List ℕ) (first later infos : List TableInfo) → infos ≡ first ++ later → listing key first ≤ listing key infos
-fewer-listed key first later infos are =
-    let p : TableInfo → Bool = λ info. list_any (λ r. eq_by_cmp bytes_cmp key r.key) info.parts in
-    let sum : length (filter p (first ++ later)) ≡ length (filter p first) + length (filter p later) = ap length (filter-append p first later) ∙ length-append (filter p first) (filter p later) in
-    let le : listing key first ≤ listing key (first ++ later) = omega (arith, sum) in
-    subst (λ (is : List TableInfo). listing key first ≤ listing key is) (sym are) le
 
 module _ (lines : PartReader → Memory → List Mutation → List OutLine → Type 0) where
   -- what its tables are asked for is no more than what lists its partition
@@ -238,23 +318,38 @@ module _ (lines : PartReader → Memory → List Mutation → List OutLine → T
       let now : Reader = record (t.reader) { said = t.said } in
       (with_reader id now m, inr (t.reader, t.said, t.found, t.resaid, refl), subst (λ f. Stands lines f k' (with_reader id now m)) (sym still) (keeps files (with_reader id now m) t.stands))
 
-  -- behind a page that was not given a step is one in front of it
-  pub takes-behind : (files files' : Option Files) (k q k' : Shard) (id count : ℕ) (reply : Reply) → StandsForTheSame (Stands lines) k q → Takes (Stands lines) files q (Read id count) reply files' k' → Takes (Stands lines) files k (Read id count) reply files' k'
-  takes-behind files files' k q k' id count reply keeps takes = λ m s. takes m (keeps files m s)
+  -- behind calls that keep what stands a step is one in front of them
+  pub takes-behind : (files files' : Option Files) (k q k' : Shard) (id count : ℕ) (reply : Reply) → KeepsOver (Stands lines) files k q → Takes (Stands lines) files q (Read id count) reply files' k' → Takes (Stands lines) files k (Read id count) reply files' k'
+  takes-behind files files' k q k' id count reply keeps takes = λ m s. takes m (keeps m s)
 
-  pub stops-behind : (files files' : Option Files) (k q k' : Shard) (id count : ℕ) → StandsForTheSame (Stands lines) k q → Stops (Stands lines) files q (Read id count) files' k' → Stops (Stands lines) files k (Read id count) files' k'
-  stops-behind files files' k q k' id count keeps stops = λ m s. stops m (keeps files m s)
+  pub stops-behind : (files files' : Option Files) (k q k' : Shard) (id count : ℕ) → KeepsOver (Stands lines) files k q → Stops (Stands lines) files q (Read id count) files' k' → Stops (Stands lines) files k (Read id count) files' k'
+  stops-behind files files' k q k' id count keeps stops = λ m s. stops m (keeps m s)
+
+  -- memory ran out, and what stands does so still
+  pub stops-over : (files files' : Option Files) (k k' : Shard) (id count : ℕ) → files' ≡ files → KeepsOver (Stands lines) files k k' → Stops (Stands lines) files k (Read id count) files' k'
+  stops-over files files' k k' id count still keeps = λ m s. (m, inl refl, subst (λ told. Stands lines told k' m) (sym still) (keeps m s))
+
+  pub stops-to : (files files' : Option Files) (k k' : Shard) (id count : ℕ) → files' ≡ files → Stops (Stands lines) files k (Read id count) files k' → Stops (Stands lines) files k (Read id count) files' k'
+  stops-to files files' k k' id count still stops = subst (λ told. Stops (Stands lines) files k (Read id count) told k') (sym still) stops
 
   pub takes-told : (files files' : Option Files) (k k' : Shard) (id count : ℕ) (reply given : Reply) → reply ≡ given → files' ≡ files → Takes (Stands lines) files k (Read id count) given files k' → Takes (Stands lines) files k (Read id count) reply files' k'
   takes-told files files' k k' id count reply given is still t = subst (λ (r : Reply). Takes (Stands lines) files k (Read id count) r files' k') (sym is) (to-files lines files k k' files' (Read id count) given still t)
 
   -- a reader went on over what was read of the tables of its opening
-  pub told-by : (files : Option Files) (k l : Shard) (at : ℕ) (d : ℕ × PartitionReader) (read : Mutation) → get_or k.readers.items at d ≡ d →
-      ((m : State) (later : List TableInfo) → IsOver files k.folder.schema k.folder.infos m → k.folder.infos ≡ d.1.tables ++ later → (said : List Mutation) × IsSaidByFirst m d.1.tables d.1.key said × IsJoinOf read said) → IsMutation read → ChangeFits k.folder.schema read →
+  pub told-by : (files : Option Files) (k l : Shard) (at : ℕ) (d : ℕ × PartitionReader) (read : Mutation) → get_or k.readers.items at d ≡ d → IsReadOfFirst files k.folder d.1 read →
       ((id : ℕ) (files : Option Files) (m : State) (o : ℕ × PartitionReader) (said : List Mutation) → Stands lines files k m → position (λ reader. reader.0 == id) k.readers.items ≡ Some at → get_or k.readers.items at o ≡ o → IsSaidByFirst m o.1.tables o.1.key said → IsJoinOf read said → IsMutation read → ChangeFits k.folder.schema read → IsGoneOn (Stands lines) files id m l) →
       (id : ℕ) → position (λ reader. reader.0 == id) k.readers.items ≡ Some at → (m : State) → Stands lines files k m → IsGoneOn (Stands lines) files id m l
-  told-by files k l at d read here told is fits past id place m s =
+  told-by files k l at d read here h past id place m s =
       let f = found-at lines files k m id at d s (place-of id k.readers.items at place) here in
       let o = f.served.opened in
-      let said = told m o.later s.over (sym s.over.infos ∙ o.are) in
-      past id files m d said.0 s place here said.1 said.2 is fits
+      let said = h.said m o.later s.over (sym s.over.infos ∙ o.are) in
+      past id files m d said.0 s place here said.1 said.2 h.mutation h.fits
+
+  -- what was read of them was put into the row cache
+  pub keeps-by : (files : Option Files) (k f : Shard) (id at : ℕ) (d : ℕ × PartitionReader) (read : Mutation) → get_or k.readers.items at d ≡ d → position (λ reader. reader.0 == id) k.readers.items ≡ Some at → IsReadOfFirst files k.folder d.1 read →
+      ((id : ℕ) (files : Option Files) (m : State) (o : ℕ × PartitionReader) (said : List Mutation) → Stands lines files k m → position (λ reader. reader.0 == id) k.readers.items ≡ Some at → get_or k.readers.items at o ≡ o → IsSaidByFirst m o.1.tables o.1.key said → IsJoinOf read said → Stands lines files f m) → KeepsOver (Stands lines) files k f
+  keeps-by files k f id at d read here place h keeps = λ m s.
+      let found = found-at lines files k m id at d s (place-of id k.readers.items at place) here in
+      let o = found.served.opened in
+      let said = h.said m o.later s.over (sym s.over.infos ∙ o.are) in
+      keeps id files m d said.0 s place here said.1 said.2

@@ -1,6 +1,6 @@
 -- What the row cache knows of a partition it knows still.
 use Rattle.std.proofs.Common.{inl, inr, ◌≡◌, ℕ, true, false, List, [], ◌∷◌, Option, Some, None, Result, Ok, Err, refl, sym, ap, ◌∙◌, subst}
-use Rattle.std.specs.Prelude.{◌||◌, IfErr, IfOk, IsSomeAnd, IsTrue, OnOk, cond, is_some, map}
+use Rattle.std.specs.Prelude.{◌⊎◌, ◌||◌, IfErr, IfOk, IfSome, IsSomeAnd, IsTrue, OnOk, cond, is_some, map}
 use Rattle.std.specs.Global.{Vec}
 use Rattle.std.specs.List.{list_any}
 use Rattle.std.specs.Ordering.{eq_by_cmp}
@@ -40,10 +40,11 @@ use Rattle.rc_lines.specs.declared.commands.Command.TheVariants.{Flush}
 use Rattle.rc_lines.specs.declared.commands.Reply.{Reply}
 use Rattle.rc_shard.specs.declared.readers.PartitionReader.{PartitionReader}
 use Rattle.rc_shard.specs.declared.shard.Shard.{Shard}
-use Rattle.rc_shard.specs.Knowing.{IsCachedWhere, IsCachedWhole, IsChainWhere, IsKnownStill, IsPartitionListed, IsUnwritten, StaysKnown}
+use Rattle.rc_shard.specs.Knowing.{IsCachedWhere, IsCachedWhole, IsChainWhere, IsKnownStill, IsUnwritten, StaysKnown}
 use Rattle.rc_shard.specs.Releasing.{IsSnapGivenBack, IsChainListed}
 use Rattle.rc_shard.specs.calls.Caching.{AreOthers, Forgets, HasCache, LeavesCache}
 use Rattle.rc_shard.specs.calls.Keeping.{TellsOf}
+use Rattle.rc_shard.specs.calls.Reading.{IsSparedPast}
 use Rattle.rc_shard.specs.calls.Looking.{AreKnownStill, IsCacheLeft, UnlessMemory}
 use Rattle.rc_shard.specs.calls.Storing.{IsFlushAnswered, IsTableStored}
 use Rattle.rc_shard.proofs.Forgotten.{differ, entry-still, key-is, key-itself}
@@ -56,9 +57,13 @@ use Rattle.rc_shard.proofs.Numbered.{either}
 abbrev pub AreGone : Memory → Type 0
 AreGone m = (id : ℕ) → IsNumberIn m.dropped id → chain_at m id ≡ None
 
-some-entry : (o : Option ℕ) (P : ℕ → Type 0) → IsSomeAnd o P → (id : ℕ) × (o ≡ Some id) × P id
+pub some-entry : (o : Option ℕ) (P : ℕ → Type 0) → IsSomeAnd o P → (id : ℕ) × (o ≡ Some id) × P id
 some-entry None P h = absurd h
 some-entry (Some id) P h = (id, refl, h)
+
+pub no-entry : (o : Option ℕ) (P : ℕ → Type 0) → o ≡ None → IsSomeAnd o P → ⊥
+no-entry None P e h = h
+no-entry (Some id) P e h = cc e
 
 not-there : (P : ChainKind → List Version → Type 0) (o : Option KeptChain) → o ≡ None → IsSomeAnd o (λ k. P k.chain.kind k.chain.versions) → ⊥
 not-there P None e h = h
@@ -125,16 +130,17 @@ left-known k k' are gone h none key =
 
 -- ---- a snapshot of the row cache is taken back
 
--- a partition of which something could be evicted has its chain still
-pub listed-still : (snap : Option Snap) (key : List ℕ) (es : List (List ℕ × ℕ)) (old mid : Memory) → IsSnapGivenBack snap old mid → IsSomeAnd (entry_number es key) (IsChainListed old) → IsEntryStill key es old es mid
-listed-still None key es old mid same listed = subst (IsEntryStill key es old es) (sym same) (λ id e on. (e, λ k there. (k, there, same-content k)))
-listed-still (Some s) key es old mid r listed = λ id e on. (e, λ k there. r.still id k there (ap (λ (q : KeptChain). q.chain.kind) (same_some k on.kept (sym there ∙ on.there)) ∙ on.kind) (subst (λ o. IsSomeAnd o (IsChainListed old)) e listed))
+-- a partition of which something could be evicted has its chain still, and so has one that is of another chain
+apart-still : (snap : Option Snap) (key : List ℕ) (es : List (List ℕ × ℕ)) (old mid : Memory) → IsSnapGivenBack snap old mid → IsSomeAnd (entry_number es key) (IsChainListed old) ⊎ IfSome snap (λ s. entry_number es key ≡ Some s.chain → ⊥) → IsEntryStill key es old es mid
+apart-still None key es old mid same apart = subst (IsEntryStill key es old es) (sym same) (λ id e on. (e, λ k there. (k, there, same-content k)))
+apart-still (Some s) key es old mid r (inl listed) = λ id e on. (e, λ k there. r.still id k there (ap (λ (q : KeptChain). q.chain.kind) (same_some k on.kept (sym there ∙ on.there)) ∙ on.kind) (subst (λ o. IsSomeAnd o (IsChainListed old)) e listed))
+apart-still (Some s) key es old mid r (inr other) = λ id e on. (e, λ k there. (k, r.beside id (λ same. other (e ∙ ap Some same)) ∙ there, same-content k))
 
--- what is known of a partition of which something could be evicted is known still, where a snapshot was taken back and then the cache was left
-pub back-known : (snap : Option Snap) (k k' : Shard) (mid : Memory) (key : List ℕ) → AreEntries k.cache.entries k.unstored.chains → AreGone k.unstored.chains → k'.cache ≡ k.cache → IsSnapGivenBack snap k.unstored.chains mid → LeavesCache mid k'.unstored.chains → NoneLost (losses mid) (losses k'.unstored.chains) → IsPartitionListed k key → IsKnownStill key k k'
-back-known snap k k' mid key are gone cache back left none listed =
+-- what is known of such a partition is known still, where a snapshot was taken back and then the cache was left
+pub back-known : (snap : Option Snap) (k k' : Shard) (mid : Memory) (key : List ℕ) → AreEntries k.cache.entries k.unstored.chains → AreGone k.unstored.chains → k'.cache ≡ k.cache → IsSnapGivenBack snap k.unstored.chains mid → LeavesCache mid k'.unstored.chains → NoneLost (losses mid) (losses k'.unstored.chains) → IsSparedPast snap k key → IsKnownStill key k k'
+back-known snap k k' mid key are gone cache back left none apart =
     let es = k.cache.entries in
-    let first : IsEntryStill key es k.unstored.chains es mid = listed-still snap key es k.unstored.chains mid back listed in
+    let first : IsEntryStill key es k.unstored.chains es mid = apart-still snap key es k.unstored.chains mid back apart in
     let since : IsEntryStill key es mid es k'.unstored.chains = entry-still key es mid k'.unstored.chains (left.still none) in
     known-still k k' key are gone (subst (λ xs. IsEntryStill key es k.unstored.chains xs k'.unstored.chains) (sym (ap (λ c. c.entries) cache)) (entry-then key es es es k.unstored.chains mid k'.unstored.chains first since))
 

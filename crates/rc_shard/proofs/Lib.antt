@@ -18,11 +18,13 @@ mod Flushing
 mod Opening
 mod Opened
 mod Paged
+mod Passing
 mod Pinned
 mod Closing
 mod GoneOn
 mod Compacted
 mod Looking
+mod Listed
 mod Filled
 mod Evicted
 pub mod Counted

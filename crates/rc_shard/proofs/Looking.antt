@@ -1,6 +1,7 @@
 -- What asking the row cache, and filling it, leaves of what a shard stands for.
-use Rattle.std.proofs.Common.{inl, inr, ◌≡◌, ◌≤◌, ◌+◌, ℕ, List, Option, Some, None, IsSome, Result, Ok, Err, IfOk, refl, sym, ap, ◌∙◌, subst, le_refl, length, arith}
-use Rattle.std.specs.Prelude.{[], ◌∷◌, IfSome, IsSomeAnd, MatchOption, OnErr, OnOk}
+use Rattle.std.proofs.Common.{inl, inr, ◌≡◌, ◌==◌, ◌≤◌, ◌+◌, ℕ, List, Option, Some, None, IsSome, Result, Ok, Err, IfOk, refl, sym, ap, ◌∙◌, subst, le_refl, length, arith}
+use Rattle.std.specs.Prelude.{[], ◌∷◌, IfSome, IsSomeAnd, IsTrue, MatchOption, OnErr, OnOk}
+use Rattle.std.specs.Map.{lookup}
 use Rattle.std.specs.List.{AllByRecursion, AllZip}
 use Rattle.std.specs.Option.{option_map}
 use Rattle.rc_outside.specs.Files.{Files}
@@ -10,6 +11,9 @@ use Rattle.rc_mutation.specs.declared.mutations.Mutation.{Mutation}
 use Rattle.rc_query.specs.declared.lines.OutLine.{OutLine}
 use Rattle.rc_registry.specs.ChainKind.{ChainKind}
 use Rattle.rc_registry.specs.ChainKind.TheVariants.{Memtable}
+use Rattle.rc_core.specs.Chain.{has_flag}
+use Rattle.rc_core.specs.laws.Pins.{pin-others, pin-was-free}
+use Rattle.rc_registry.specs.Continuity.{static_states}
 use Rattle.rc_registry.specs.Steps.{pin_at}
 use Rattle.rc_registry.specs.Version.{Version}
 use Rattle.rc_memory.specs.Memory.{HasPin, KeptChain, Memory, chain_at, snapshot_number, with_snapshot}
@@ -20,13 +24,15 @@ use Rattle.rc_lookup.specs.NoMore.{counts-same, counts-then}
 use Rattle.rc_lookup.specs.Fillers.{losses}
 use Rattle.rc_cached.specs.Stands.{HasCacheSnapshot}
 use Rattle.rc_snapshots.specs.Seeing.{AllStillSee}
+use Rattle.rc_snapshots.specs.Snapshots.{kind_in, kind_seen, versions_in, versions_seen, versions_upto}
 use Rattle.rc_snapshots.specs.laws.Seeing.{all-see, seen-then}
 use Rattle.rc_stream.specs.Snapshot.{NoneLost}
 use Rattle.rc_lookup.specs.Unstored.{Unstored}
 use Rattle.rc_lookup.specs.Memtables.{HaveWrites, in_chains}
 use Rattle.rc_lookup.specs.Readers.{IsTakenIf}
 use Rattle.rc_lookup.specs.Entries.{AreEntries}
-use Rattle.rc_lookup.specs.Found.{IsForgotten}
+use Rattle.rc_lookup.specs.Found.{IsForgotten, entry_number}
+use Rattle.rc_lookup.specs.Known.{KnowsStaticRow}
 use Rattle.rc_lookup.specs.Saying.{Below, CacheSays}
 use Rattle.rc_lookup.specs.Footprint.{AreInUse, HaveOneVersion, cache_snapshots, memtable_bytes}
 use Rattle.rc_lookup.specs.Held.{IsHeldOf}
@@ -36,6 +42,9 @@ use Rattle.rc_paging.specs.declared.forms.PartReader.{PartReader}
 use Rattle.rc_folder.specs.Tabled.{Tabled}
 use Rattle.rc_machine.specs.State.{Reader, State}
 use Rattle.rc_shard.specs.declared.readers.PartitionReader.{PartitionReader}
+use Rattle.rc_shard.specs.declared.readers.Source.{Source}
+use Rattle.rc_shard.specs.declared.readers.Source.TheVariants as source
+use Rattle.rc_shard.specs.Filling.{IsHeldByReader}
 use Rattle.rc_shard.specs.declared.shard.Shard.{Shard}
 use Rattle.rc_shard.specs.Cached.{HaveCached}
 use Rattle.rc_shard.specs.Knowing.{IsChainWhere}
@@ -43,7 +52,7 @@ use Rattle.rc_shard.specs.Readers.{IsCachedThere, IsOtherSnap, IsServed, cached_
 use Rattle.rc_shard.specs.Stands.{AreFor, Stands}
 use Rattle.rc_shard.specs.Using.{LeavesBeside}
 use Rattle.rc_shard.specs.calls.Keeping.{CountsStay}
-use Rattle.rc_shard.specs.calls.Looking.{IsCacheUsed, IsEntrySnapshot, snap_taken}
+use Rattle.rc_shard.specs.calls.Looking.{IsCacheUsed, IsEntrySnapshot, IsSourceIn, IsSourceKnown, snap_taken, source_snap}
 use Rattle.rc_shard.specs.calls.Staying.{Staying}
 use Rattle.rc_shard.proofs.Numbered.{chain-beside, chain-here, here-or-beside}
 use Rattle.rc_shard.proofs.Served.{all-served, below-served, same-opened}
@@ -217,6 +226,11 @@ if-some (Ok None) P Q f h = tt
 if-some (Ok (Some s)) P Q f h = f s h
 if-some (Err e) P Q f h = tt
 
+pub both-some : {E : Type 0} (r : Result (Option Snap) E) (P Q : Snap → Type 0) → IfOk r (λ o. IfSome o P) → IfOk r (λ o. IfSome o Q) → IfOk r (λ o. IfSome o (λ s. P s × Q s))
+both-some (Ok None) P Q h k = tt
+both-some (Ok (Some s)) P Q h k = (h, k)
+both-some (Err e) P Q h k = tt
+
 -- what holds anyway, and what follows, where a call is done
 pub on-ok : {A E : Type 0} (r : Result A E) (P : Type 0) → P → OnOk r P
 on-ok (Ok x) P h = h
@@ -225,6 +239,10 @@ on-ok (Err e) P h = tt
 pub on-ok-weaker : {A E : Type 0} (r : Result A E) (P Q : Type 0) → (P → Q) → OnOk r P → OnOk r Q
 on-ok-weaker (Ok x) P Q f h = f h
 on-ok-weaker (Err e) P Q f h = tt
+
+pub on-ok-both : {A E : Type 0} (r : Result A E) (P Q R : Type 0) → (P → Q → R) → OnOk r P → OnOk r Q → OnOk r R
+on-ok-both (Ok x) P Q R f h k = f h k
+on-ok-both (Err e) P Q R f h k = tt
 
 pub none-some : (o : Option Snap) → o ≡ None → IsSome o → ⊥
 none-some None e on = cc
@@ -263,6 +281,44 @@ known-taken P m n (Some s) taken id h =
     (λ on. subst (ChainIn P) (sym (chain-here m n s.chain now is)) (pinned-known P (chain_at m s.chain) on))
     (λ ne on. subst (ChainIn P) (sym (chain-beside m n s.chain now is id ne)) on) h
 
+-- nor from what another snapshot sees
+none-number : (o : Option ℕ) → o ≡ None → IsSome o → ⊥
+none-number None e on = cc
+none-number (Some i) e on = cc
+
+seen-here : (o : Option KeptChain) (pin : ℕ) → IsSomeAnd o (λ q. IsSome (pin_at q.chain.pins pin)) → (versions_in (option_map (λ k. with_snapshot (snapshot_number k.chain) k) o) pin ≡ versions_in o pin) × (kind_in (option_map (λ k. with_snapshot (snapshot_number k.chain) k) o) ≡ kind_in o)
+seen-here None pin on = absurd on
+seen-here (Some k) pin on = (ap (versions_upto k.chain.versions) (pin-others (snapshot_number k.chain) k.chain.pins pin (λ free. none-number (pin_at k.chain.pins pin) (ap (pin_at k.chain.pins) free ∙ pin-was-free k.chain.pins) on)), refl)
+
+seen-taken : (m n : Memory) (taken : Option Snap) → IsTakenIf m n taken → (id pin : ℕ) → IsSomeAnd (chain_at m id) (λ q. IsSome (pin_at q.chain.pins pin)) → (versions_in (chain_at n id) pin ≡ versions_in (chain_at m id) pin) × (kind_in (chain_at n id) ≡ kind_in (chain_at m id))
+seen-taken m n None same id pin on = (ap (λ (x : Memory). versions_in (chain_at x id) pin) same, ap (λ (x : Memory). kind_in (chain_at x id)) same)
+seen-taken m n (Some s) taken id pin on =
+    let is = ap (λ (x : Memory). x.chains) taken.now in
+    let now = option_map (λ k. with_snapshot (snapshot_number k.chain) k) (chain_at m s.chain) in
+    here-or-beside (λ i. IsSomeAnd (chain_at m i) (λ q. IsSome (pin_at q.chain.pins pin)) → (versions_in (chain_at n i) pin ≡ versions_in (chain_at m i) pin) × (kind_in (chain_at n i) ≡ kind_in (chain_at m i))) s.chain id
+    (λ here. let was = seen-here (chain_at m s.chain) pin here in let there = chain-here m n s.chain now is in (ap (λ o. versions_in o pin) there ∙ was.0, ap kind_in there ∙ was.1))
+    (λ ne here. let there = chain-beside m n s.chain now is id ne in (ap (λ o. versions_in o pin) there, ap kind_in there)) on
+
+pub head-taken : (m n : Memory) (taken : Option Snap) (s : Snap) → IsTakenIf m n taken → HasPin m s.chain s.pin → KnowsStaticRow m s → HasPin n s.chain s.pin × KnowsStaticRow n s
+head-taken m n taken s t on known =
+    let same = seen-taken m n taken t s.chain s.pin on in (
+      pinned-still m n taken t s.chain s.pin on,
+      subst (λ (vs : List Version). IsTrue (has_flag (kind_seen n s) (static_states vs))) (sym same.0) (subst (λ q. IsTrue (has_flag q (static_states (versions_seen m s)))) (sym same.1) known),
+    )
+  where
+    pin-here : (o : Option KeptChain) (pin : ℕ) → IsSomeAnd o (λ q. IsSome (pin_at q.chain.pins pin)) → IsSomeAnd (option_map (λ k. with_snapshot (snapshot_number k.chain) k) o) (λ q. IsSome (pin_at q.chain.pins pin))
+    pin-here None pin on = absurd on
+    pin-here (Some k) pin on = subst (λ (i : Option ℕ). IsSome i) (sym (pin-others (snapshot_number k.chain) k.chain.pins pin (λ free. none-number (pin_at k.chain.pins pin) (ap (pin_at k.chain.pins) free ∙ pin-was-free k.chain.pins) on))) on
+
+    pinned-still : (m n : Memory) (taken : Option Snap) → IsTakenIf m n taken → (id pin : ℕ) → HasPin m id pin → HasPin n id pin
+    pinned-still m n None same id pin on = subst (λ (x : Memory). HasPin x id pin) (sym same) on
+    pinned-still m n (Some s) taken id pin on =
+        let is = ap (λ (x : Memory). x.chains) taken.now in
+        let now = option_map (λ k. with_snapshot (snapshot_number k.chain) k) (chain_at m s.chain) in
+        here-or-beside (λ i. HasPin m i pin → HasPin n i pin) s.chain id
+        (λ here. subst (λ (o : Option KeptChain). IsSomeAnd o (λ q. IsSome (pin_at q.chain.pins pin))) (sym (chain-here m n s.chain now is)) (pin-here (chain_at m s.chain) pin here))
+        (λ ne here. subst (λ (o : Option KeptChain). IsSomeAnd o (λ q. IsSome (pin_at q.chain.pins pin))) (sym (chain-beside m n s.chain now is id ne)) here) on
+
 pub same-recency : (m n : Memory) (taken : Option Snap) → IsTakenIf m n taken → n.recency ≡ m.recency
 same-recency m n None same = ap (λ (x : Memory). x.recency) same
 same-recency m n (Some s) taken = ap (λ (x : Memory). x.recency) taken.now
@@ -275,6 +331,18 @@ pub known-pinned : (entry : Option ℕ) (m mid n : Memory) (first second : Optio
 known-pinned entry m mid n first second a b P h = some-known entry (IsChainWhere P m) (IsChainWhere P n) (λ id k. known-taken P mid n second b id (known-taken P m mid first a id k)) h
 
 -- ---- what a shard stands for
+
+-- a reader that was opened over a snapshot to which the static row is known holds it
+pub held-opened : (k new : Shard) (m : State) (id : ℕ) (key : List ℕ) (x : PartitionReader) (source : Source) → IsSourceIn k m key source → IsSourceKnown k.unstored.chains source → cached_of x ≡ source_snap source → new.cache.entries ≡ k.cache.entries → x.key ≡ key → lookup (λ q. q == id) new.readers.items ≡ Some x →
+    ((s : Snap) → HasPin k.unstored.chains s.chain s.pin → KnowsStaticRow k.unstored.chains s → KnowsStaticRow new.unstored.chains s) → IsHeldByReader id key new
+held-opened k new m id key x (source.Read list) is known snap entries own found keeps = absurd known
+held-opened k new m id key x (source.Cached s) is known snap entries own found keeps = record {
+  reader = x;
+  found = found;
+  of_key = own;
+  holds = record { snap = s; held = snap; entry = subst (λ (q : List ℕ). entry_number new.cache.entries q ≡ Some s.chain) (sym own) (ap (λ es. entry_number es key) entries ∙ is.entry) };
+  head = keeps s (has-pin k.unstored.chains s is.there) known;
+}
 
 module _ (lines : PartReader → Memory → List Mutation → List OutLine → Type 0) (stays : Staying lines) where
   -- where below chains of which no snapshot was taken something else lies now

@@ -21,7 +21,7 @@ use Rattle.rc_shard.specs.declared.shard.Shard.{Shard}
 use Rattle.rc_shard.specs.Readers.{IsReadOver}
 use Rattle.rc_shard.specs.Stands.{Stands}
 use Rattle.rc_shard.specs.calls.Keeping.{StandsForTheSame}
-use Rattle.rc_shard.specs.calls.Reading.{IsPaged, IsPagedBeside}
+use Rattle.rc_shard.specs.calls.Reading.{IsPaged, IsPagedBeside, IsPastReader}
 use Rattle.rc_shard.specs.calls.Staying.{Staying}
 use Rattle.rc_shard.proofs.Places.{IsPlace, same-there}
 use Rattle.rc_shard.proofs.Taking.{paged-at, unpaged-at}
@@ -74,13 +74,32 @@ over-unpaged schema below m (Cached a) (Cached b) e r goes of h = record {
   settled = subst (λ (o : Option (List OutLine)). MatchOption o (r.settled ≡ 0) (λ kept. 1 ≤ r.settled)) (sym goes.1) h.settled;
 }
 
+-- it is past the row cache where it was
+pub form-kept : {T : Type 0} (r : Result T PageErr) (p q : PartReader) → IsFormKept r p q → IsPastReader p → IsPastReader q
+form-kept (Ok x) (Past a) (Past b) goes past = tt
+form-kept (Ok x) (Past a) (Cached b) goes past = absurd goes
+form-kept (Ok x) (Cached a) q goes past = absurd past
+form-kept (Err e) (Past a) (Past b) goes past = tt
+form-kept (Err e) (Past a) (Cached b) goes past = absurd goes
+form-kept (Err e) (Cached a) q goes past = absurd past
+
+pub form-back : {T : Type 0} (r : Result T PageErr) (p q : PartReader) → IsFormKept r p q → IsPastReader q → IsPastReader p
+form-back (Ok x) (Past a) q goes past = tt
+form-back (Ok x) (Cached a) (Past b) goes past = absurd goes
+form-back (Ok x) (Cached a) (Cached b) goes past = absurd past
+form-back (Err e) (Past a) q goes past = tt
+form-back (Err e) (Cached a) (Past b) goes past = absurd goes
+form-back (Err e) (Cached a) (Cached b) goes past = absurd past
+
 -- the reader at a place holds what it held, and all else is as it was
 abbrev pub paged-beside : (k k' : Shard) (id at : ℕ) (d x : ℕ × PartitionReader) → IsPlace id k.readers.items at → get_or k.readers.items at d ≡ d → k'.readers.items ≡ set k.readers.items at x → x.0 ≡ d.0 → x.1.key ≡ d.1.key → x.1.tables ≡ d.1.tables → held_by x.1.reader ≡ held_by d.1.reader →
-    k'.unstored ≡ k.unstored → k'.folder ≡ k.folder → k'.cache ≡ k.cache → k'.answered ≡ k.answered → k'.segments ≡ k.segments → k'.asked ≡ k.asked → IsPagedBeside at k k'
-paged-beside k k' id at d x p here items ids keys tables held unst folder cache answered segs asked = record {
+    (IsPastReader d.1.reader → IsPastReader x.1.reader) → (IsPastReader x.1.reader → IsPastReader d.1.reader) → k'.unstored ≡ k.unstored → k'.folder ≡ k.folder → k'.cache ≡ k.cache → k'.answered ≡ k.answered → k'.segments ≡ k.segments → k'.asked ≡ k.asked → IsPagedBeside at k k'
+paged-beside k k' id at d x p here items ids keys tables held past over unst folder cache answered segs asked = record {
   reader = x;
   readers = items;
   kept = λ o there. subst (λ (q : ℕ × PartitionReader). (x.0 ≡ q.0) × (x.1.key ≡ q.1.key) × (x.1.tables ≡ q.1.tables) × (held_by x.1.reader ≡ held_by q.1.reader)) (same-there id k.readers.items at d o p here there) (ids, keys, tables, held);
+  past = λ o there was. past (subst (λ (q : ℕ × PartitionReader). IsPastReader q.1.reader) (sym (same-there id k.readers.items at d o p here there)) was);
+  over = λ o there now. subst (λ (q : ℕ × PartitionReader). IsPastReader q.1.reader) (same-there id k.readers.items at d o p here there) (over now);
   unstored = unst;
   folder = folder;
   cache = cache;

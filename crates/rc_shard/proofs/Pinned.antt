@@ -13,7 +13,7 @@ use Rattle.rc_lines.specs.declared.commands.Reply.TheVariants as replies
 use Rattle.rc_memory.specs.Memory.{Memory}
 use Rattle.rc_lookup.specs.Fillers.{losses}
 use Rattle.rc_lookup.specs.Found.{entry_number}
-use Rattle.rc_lookup.specs.Touched.{IsMadeRecent}
+use Rattle.rc_lookup.specs.Touched.{AreRecent, IsHeadOrEnd}
 use Rattle.rc_stream.specs.Snapshot.{NoneLost}
 use Rattle.rc_snapshots.specs.declared.snaps.Snaps.{Snaps}
 use Rattle.rc_lookup.specs.Unstored.{Unstored}
@@ -28,7 +28,8 @@ use Rattle.rc_shard.specs.Using.{LeavesBeside}
 use Rattle.rc_shard.specs.calls.Looking.{source_snap}
 use Rattle.rc_shard.specs.calls.Opened.{IsReaderPinned}
 use Rattle.rc_shard.specs.declared.shard.Shard.{Shard}
-use Rattle.rc_shard.specs.Knowing.{IsCachedWhole, IsKnownOnceOpened, IsPartitionRecent, IsRecentOnceHit}
+use Rattle.rc_shard.specs.Filling.{IsFilledAsTold, IsKnownOnceOpened}
+use Rattle.rc_shard.specs.Knowing.{AreEndsRecent, IsRecentOnceHit, IsStaticCached}
 use Rattle.rc_shard.specs.Opening.{IsOpenedAsTold, PinsPartition}
 use Rattle.rc_shard.specs.calls.Keeping.{TellsOf}
 
@@ -64,24 +65,23 @@ module _ (id : ℕ) (key : List ℕ) (slice : Slice) (readers : List (ℕ × Par
 
 module _ (id : ℕ) (key : List ℕ) (slice : Slice) (k : Shard) where
   -- what is known of the partition is known once its reader is opened
-  pub filled-opened : (l k' : Shard) (r : Result Reply AllocError) → IfOk r (λ reply. reply ≡ replies.Fine) → IfOk r (λ _. IsCachedWhole l key → IsCachedWhole k' key) → (NoneLost (losses k.unstored.chains) (losses k'.unstored.chains) → IsCachedWhole l key) →
-      IfOk r (λ reply. IsKnownOnceOpened (OpenRead id key slice) reply k k')
-  filled-opened l k' (Ok reply) fine stays whole = subst (λ q. IsKnownOnceOpened (OpenRead id key slice) q k k') (sym fine) (λ none. stays (whole none))
-  filled-opened l k' (Err e) fine stays whole = tt
+  pub filled-opened : (before now : ℕ) (k' : Shard) (r : Result Reply AllocError) → IfOk r (λ reply. reply ≡ replies.Fine) → IfOk r (λ _. NoneLost (losses k.unstored.chains) (losses k'.unstored.chains) → IsKnownOnceOpened id key k k') → IfOk r (λ reply. IsFilledAsTold (OpenRead id key slice) reply before now k k')
+  filled-opened before now k' (Ok reply) fine known = subst (λ q. IsFilledAsTold (OpenRead id key slice) q before now k k') (sym fine) known
+  filled-opened before now k' (Err e) fine known = tt
 
-  pub filled-unread : (k' : Shard) (e : StreamErr) (r : Result Reply AllocError) → IfOk r (TellsOf e) → IfOk r (λ reply. IsKnownOnceOpened (OpenRead id key slice) reply k k')
-  filled-unread k' e (Err x) told = tt
-  filled-unread k' stream_err.Fault (Ok reply) told = subst (λ q. IsKnownOnceOpened (OpenRead id key slice) q k k') (sym told) tt
-  filled-unread k' (stream_err.Damaged file offset) (Ok reply) told = subst (λ q. IsKnownOnceOpened (OpenRead id key slice) q k k') (sym told) tt
-  filled-unread k' stream_err.NoMemory (Ok reply) told = absurd told
+  pub filled-unread : (before now : ℕ) (k' : Shard) (e : StreamErr) (r : Result Reply AllocError) → IfOk r (TellsOf e) → IfOk r (λ reply. IsFilledAsTold (OpenRead id key slice) reply before now k k')
+  filled-unread before now k' e (Err x) told = tt
+  filled-unread before now k' stream_err.Fault (Ok reply) told = subst (λ q. IsFilledAsTold (OpenRead id key slice) q before now k k') (sym told) tt
+  filled-unread before now k' (stream_err.Damaged file offset) (Ok reply) told = subst (λ q. IsFilledAsTold (OpenRead id key slice) q before now k k') (sym told) tt
+  filled-unread before now k' stream_err.NoMemory (Ok reply) told = absurd told
 
-  -- a partition that was known is the most recent one once its reader is opened
-  pub recent-opened : (l k' : Shard) (r : Result Reply AllocError) → IfOk r (λ reply. reply ≡ replies.Fine) → IfOk r (λ _. (k'.cache.entries ≡ l.cache.entries) × (k'.unstored.chains.recency ≡ l.unstored.chains.recency)) → (IsCachedWhole k key → IsPartitionRecent key k l) →
+  -- the ends of a partition of which the static row was known are the most recent objects once its reader is opened
+  pub recent-opened : (l k' : Shard) (r : Result Reply AllocError) → IfOk r (λ reply. reply ≡ replies.Fine) → IfOk r (λ _. (k'.cache.entries ≡ l.cache.entries) × (k'.unstored.chains.recency ≡ l.unstored.chains.recency)) → (IsStaticCached k key → AreEndsRecent key k l) →
       IfOk r (λ reply. IsRecentOnceHit (OpenRead id key slice) reply k k')
-  recent-opened l k' (Ok reply) fine same hit = subst (λ q. IsRecentOnceHit (OpenRead id key slice) q k k') (sym fine) (λ whole. (
+  recent-opened l k' (Ok reply) fine same hit = subst (λ q. IsRecentOnceHit (OpenRead id key slice) q k k') (sym fine) (λ on. (
       let e : entry_number k'.cache.entries key ≡ entry_number l.cache.entries key = ap (λ es. entry_number es key) same.0 in
-      subst (λ o. IsSomeAnd o (λ i. IsMadeRecent i k.unstored.chains.recency k'.unstored.chains.recency)) (sym e)
-      (subst (λ ws. IsSomeAnd (entry_number l.cache.entries key) (λ i. IsMadeRecent i k.unstored.chains.recency ws)) (sym same.1) (hit whole))))
+      subst (λ o. IsSomeAnd o (λ i. AreRecent (IsHeadOrEnd i) k.unstored.chains.recency k'.unstored.chains.recency)) (sym e)
+      (subst (λ ws. IsSomeAnd (entry_number l.cache.entries key) (λ i. AreRecent (IsHeadOrEnd i) k.unstored.chains.recency ws)) (sym same.1) (hit on))))
   recent-opened l k' (Err e) fine same hit = tt
 
   pub recent-unread : (k' : Shard) (e : StreamErr) (r : Result Reply AllocError) → IfOk r (TellsOf e) → IfOk r (λ reply. IsRecentOnceHit (OpenRead id key slice) reply k k')

@@ -8,7 +8,10 @@ use Rattle.rc_registry.specs.ChainKind.TheVariants.{Cache, Memtable}
 use Rattle.rc_registry.specs.Chains.{IsPinned}
 use Rattle.rc_registry.specs.Registry.{AreFree}
 use Rattle.rc_registry.specs.Steps.{pin_at}
-use Rattle.rc_memory.specs.Changes.{member_at}
+use Rattle.rc_registry.specs.Version.{IsVersion}
+use Rattle.rc_memory.specs.Changes.{OfVersion, member_at}
+use Rattle.rc_memory.specs.Kept.{IsLiveInChains}
+use Rattle.rc_memory.specs.Recency.{IsRecency}
 use Rattle.rc_memory.specs.Lists.{elem-cases, elem-first, elem-later, elem-none}
 use Rattle.rc_memory.specs.Memory.{HasPin, KeptChain, Member, Memory, chain_at, on_chain, with_chains, without_snapshot}
 use Rattle.rc_memory.specs.laws.Places.{same_some}
@@ -18,6 +21,9 @@ use Rattle.rc_cached.specs.Stands.{HasCacheSnapshot}
 use Rattle.rc_snapshots.specs.Seeing.{HasSnap, StillSees}
 use Rattle.rc_snapshots.specs.Snapshots.{kind_in, versions_in}
 use Rattle.rc_lookup.specs.NoMore.{counts-same}
+use Rattle.rc_lookup.specs.Crowding.{LosesWhereCrowded}
+use Rattle.rc_lookup.specs.Crowds.{loses-after, loses-nothing}
+use Rattle.rc_lookup.specs.Losing.{loses-on}
 use Rattle.rc_lookup.specs.Entries.{AreEntries, LeavesCached}
 use Rattle.rc_lookup.specs.Footprint.{AreInUse, HaveOneVersion, cache_snapshots, memtable_bytes, snapshots_of}
 use Rattle.rc_lookup.specs.Readers.{taken_back}
@@ -108,6 +114,14 @@ module _ (s : Snap) (old new : Memory) (h : HasCacheSnapshot old s.chain s.pin) 
 
   pub swept-then : ((q : KeptChain) → chain_at back s.chain ≡ Some q → IsIdle back s.chain q.chain → IsChainDropped s.chain old.recency back new) → ((q : KeptChain) → chain_at back s.chain ≡ Some q → (IsIdle back s.chain q.chain → ⊥) → new ≡ back) → IsSweptThen
   swept-then dropped kept = elim (idle-or-not back s.chain left_chain h.cached) [ inl idle ↦ inl (idle, dropped left_chain back-there idle) | inr busy ↦ inr (busy, kept left_chain back-there busy) ]
+
+  -- what is lost is lost in a crowded region
+  pub swept-loses : (dropped : (S : ℕ) (old new : Memory) (id : ℕ) (list : List Member) (k : KeptChain) → chain_at old id ≡ Some k → IsRecency old → ((i j : ℕ) → OfVersion old i j (λ k v. IsVersion v)) → IsLiveInChains old → IsLiveInChains new → IsIdle old id k.chain → IsChainDropped id list old new → LosesWhereCrowded S 0 old new) →
+      (mid : Memory) → mid ≡ back → IsSweptThen → IsRecency mid → ((i j : ℕ) → OfVersion mid i j (λ k v. IsVersion v)) → IsLiveInChains mid → IsLiveInChains new → LosesWhereCrowded 131072 0 old new
+  swept-loses dropped mid is swept rule versions before now = loses-after 131072 0 old back new (loses-on 131072 s.chain (without_snapshot s.pin) old back (λ k. refl) refl) (elim swept [
+    | inl gone ↦ dropped 131072 back new s.chain old.recency left_chain back-there (subst IsRecency is rule) (subst (λ (m : Memory). (i j : ℕ) → OfVersion m i j (λ k v. IsVersion v)) is versions) (subst IsLiveInChains is before) now gone.0 gone.1
+    | inr kept ↦ subst (LosesWhereCrowded 131072 0 back) (sym kept.1) (loses-nothing 131072 back)
+  ])
 
   module _ (swept : IsSweptThen) where
     swept-beside : (i : ℕ) → (i ≡ s.chain → ⊥) → chain_at new i ≡ chain_at old i

@@ -1,5 +1,5 @@
 -- What is read stays: what is left where the rows that were given became the most recent ones.
-use Rattle.std.proofs.Common.{◌≡◌, ◌==◌, ℕ, zero, suc, cond, List, ◌∷◌, [], get_or, Option, Some, None, refl, sym, ap, subst, ◌∙◌, arith}
+use Rattle.std.proofs.Common.{◌≡◌, ◌==◌, ◌++◌, ℕ, zero, suc, cond, eq-eqb, List, ◌∷◌, [], get_or, Option, Some, None, refl, sym, ap, subst, ◌∙◌, arith}
 use Rattle.std.specs.Prelude.{IfSome}
 use Rattle.std.specs.Map.{lookup}
 use Rattle.rc_schema.specs.SchemaValue.{SchemaValue}
@@ -8,25 +8,23 @@ use Rattle.rc_memory.specs.Memory.{Member, Memory, chain_at}
 use Rattle.rc_lookup.specs.Entries.{AreEntries}
 use Rattle.rc_lookup.specs.Fillers.{losses}
 use Rattle.rc_lookup.specs.Footprint.{AreInUse}
-use Rattle.rc_lookup.specs.Found.{entry_number}
 use Rattle.rc_lookup.specs.Memtables.{in_chains}
 use Rattle.rc_lookup.specs.Rest.{LeavesRest}
 use Rattle.rc_lookup.specs.Saying.{Below, CacheSays}
-use Rattle.rc_lookup.specs.Touched.{AreTouched, IsEntryOfGiven}
+use Rattle.rc_lookup.specs.Touched.{AreTouched}
 use Rattle.rc_mutation.specs.declared.mutations.Mutation.{Mutation}
 use Rattle.rc_paging.specs.declared.forms.PartReader.{PartReader}
 use Rattle.rc_shard.specs.declared.readers.PartitionReader.{PartitionReader}
 use Rattle.rc_machine.specs.State.{State}
 use Rattle.rc_shard.specs.Cached.{HaveCached}
-use Rattle.rc_shard.specs.Knowing.{IsGonePast, IsReaderTouched}
-use Rattle.rc_shard.specs.Readers.{cached_of}
+use Rattle.rc_shard.specs.Knowing.{IsReaderTouched}
 use Rattle.rc_shard.specs.calls.Keeping.{StandsForTheSame}
 use Rattle.rc_shard.specs.calls.Staying.{Staying}
 use Rattle.rc_shard.specs.calls.Caching.{LeavesCache}
 use Rattle.rc_shard.specs.declared.shard.Shard.{Shard}
 use Rattle.rc_shard.specs.Stands.{Stands}
 use Rattle.rc_shard.proofs.Looking.{Beside, rest-plain, used-for}
-use Rattle.rc_shard.proofs.Places.{IsPlace}
+use Rattle.rc_shard.proofs.Places.{IsNowhere, IsPlace}
 
 -- what the cache is left where the list alone has another order
 module _ (these : Member → Type 0) (old new : Memory) (t : AreTouched these old new) (rest : LeavesRest old new) (used : AreInUse old → AreInUse new)
@@ -61,6 +59,11 @@ reader-at id at d [] p here = absurd p
 reader-at id zero d (o ∷ os) p here = ap (λ b. cond b (Some o.1) (lookup (λ q. q == id) os)) p ∙ ap (λ (x : ℕ × PartitionReader). Some x.1) here
 reader-at id (suc at) d (o ∷ os) p here = ap (λ b. cond b (Some o.1) (lookup (λ q. q == id) os)) p.0 ∙ reader-at id at d os p.1 here
 
+-- so is one behind others of other ids
+pub found-behind : (id : ℕ) (x : PartitionReader) (os : List (ℕ × PartitionReader)) → IsNowhere id os → lookup (λ q. q == id) (os ++ (id, x) ∷ []) ≡ Some x
+found-behind id x [] none = ap (λ b. cond b (Some x) None) (eq-eqb id id refl)
+found-behind id x (o ∷ os) none = ap (λ b. cond b (Some o.1) (lookup (λ q. q == id) (os ++ (id, x) ∷ []))) none.0 ∙ found-behind id x os none.1
+
 -- what is there, where something is
 abbrev from_some : {T : Type 0} → T → Option T → T
 from_some d None = d
@@ -69,11 +72,9 @@ from_some d (Some x) = x
 pub same-some : {T : Type 0} (x y : T) (o : Option T) → o ≡ Some x → o ≡ Some y → x ≡ y
 same-some x y o e f = ap (from_some x) (sym e ∙ f)
 
--- the rows of lines that the reader at a place gave are the most recent ones, behind what it left
-pub touched-as-given : (id at : ℕ) (d : ℕ × PartitionReader) (lines : List OutLine) (k k' : Shard) (mid : Memory) → IsPlace id k.readers.items at → get_or k.readers.items at d ≡ d → IsGonePast (cached_of d.1) k.unstored.chains mid → k'.cache ≡ k.cache →
-    AreTouched (IsEntryOfGiven (entry_number k.cache.entries d.1.key) lines) mid k'.unstored.chains → IfSome (lookup (λ q. q == id) k.readers.items) (λ o. IsReaderTouched lines o k k')
-touched-as-given id at d lines k k' mid p here past cache t =
-    subst (λ (o : Option PartitionReader). IfSome o (λ x. IsReaderTouched lines x k k')) (sym (reader-at id at d k.readers.items p here)) (record { cache = cache; read = mid; past = past; touched = t })
+-- the rows of lines that the reader at a place gave are the most recent ones
+pub touched-as-given : (id at : ℕ) (d : ℕ × PartitionReader) (lines : List OutLine) (k k' : Shard) → IsPlace id k.readers.items at → get_or k.readers.items at d ≡ d → IsReaderTouched id lines d.1 k k' → IfSome (lookup (λ q. q == id) k.readers.items) (λ o. IsReaderTouched id lines o k k')
+touched-as-given id at d lines k k' p here t = subst (λ (o : Option PartitionReader). IfSome o (λ x. IsReaderTouched id lines x k k')) (sym (reader-at id at d k.readers.items p here)) t
 
 -- what stands for a state stands for it still where the rows that were given became the most recent ones
 pub keeps-touched : (lines : PartReader → Memory → List Mutation → List OutLine → Type 0) → Staying lines → Beside → (k : Shard) (n : Memory) (these : Member → Type 0) → AreTouched these k.unstored.chains n → LeavesRest k.unstored.chains n → (AreInUse k.unstored.chains → AreInUse n) →

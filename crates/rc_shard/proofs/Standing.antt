@@ -128,6 +128,10 @@ pub if-ok-weaker : {A E : Type 0} (r : Result A E) (P Q : A → Type 0) → ((x 
 if-ok-weaker (Ok x) P Q f h = f x h
 if-ok-weaker (Err e) P Q f h = tt
 
+pub if-ok-both : {A E : Type 0} (r : Result A E) (P Q R : Type 0) → (P → Q → R) → IfOk r (λ _. P) → IfOk r (λ _. Q) → IfOk r (λ _. R)
+if-ok-both (Ok x) P Q R f h k = f h k
+if-ok-both (Err e) P Q R f h k = tt
+
 -- ---- what is kept
 
 pub kept-itself : (schema : SchemaValue) (u : Unstored 131072) → KeepsUnstored schema u u

@@ -4,7 +4,7 @@
 --     IsLostAsTold       by which commands nothing is evicted, or no fill skipped
 use Rattle.std.specs.Prelude.{◌≡◌, ⊤, ℕ, List, length, min}
 use Rattle.rc_lines.specs.declared.commands.Command.{Command}
-use Rattle.rc_lines.specs.declared.commands.Command.TheVariants.{Close, Compact, Evict, Nothing, Put, Read, SetSchema, Stats}
+use Rattle.rc_lines.specs.declared.commands.Command.TheVariants.{Close, Compact, Evict, Nothing, Put, SetSchema, Stats}
 use Rattle.rc_memory.specs.Memory.{Member, Memory}
 use Rattle.rc_lookup.specs.Crowding.{LosesNothing}
 use Rattle.rc_lookup.specs.Evictions.{AreEvicted}
@@ -18,12 +18,11 @@ abbrev pub IsEvictedAsTold : Command → Memory → Memory → Type 0
 IsEvictedAsTold (Evict count) old new = AreFirstEvicted count old new
 IsEvictedAsTold command old new = ⊤
 
--- A schema line, a read, a closing, a compaction, figures and an empty line lose nothing; a write and an eviction that is told skip no fill.
+-- A schema line, a closing, a compaction, figures and an empty line lose nothing; a write and an eviction that is told skip no fill.
 abbrev pub IsLostAsTold : Command → Memory → Memory → Type 0
 IsLostAsTold Nothing old new = LosesNothing old new
 IsLostAsTold (SetSchema schema) old new = LosesNothing old new
 IsLostAsTold (Put w) old new = new.counts.skipped ≡ old.counts.skipped
-IsLostAsTold (Read id count) old new = LosesNothing old new
 IsLostAsTold (Close id) old new = LosesNothing old new
 IsLostAsTold (Evict count) old new = new.counts.skipped ≡ old.counts.skipped
 IsLostAsTold (Compact count) old new = LosesNothing old new

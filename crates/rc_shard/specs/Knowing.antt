@@ -1,19 +1,18 @@
--- What the row cache of a shard knows of a partition, and what an opening has of that.
+-- What the row cache of a shard knows of a partition, and what an opening and a read have of that.
 --     IsCachedWhole          all of a partition is known
 --     IsChainWhere, IsCachedWhere    of the chain of a partition something holds
 --     IsCachedAt, IsStaticCached     a position is known, or the static row
 --     OnOpened               what holds of an opening's key, where a reader was opened
 --     IsReadCached           what a read passes is known to its reader's snapshot
 --     AsksNothingWhereKnown  what is known is opened and read without asking the store
---     IsKnownOnceOpened      a partition that was opened is known
---     IsPartitionRecent      its objects are the most recent ones
---     IsRecentOnceHit        so they are once it was opened, where it was known before
---     IsGonePast         what a reader leaves that goes on past the row cache
---     IsReaderTouched    the rows of lines are the most recent ones of a reader's partition
---     IsTouchedAsGiven   so those are that a read gives
+--     AreEndsRecent          a partition's static row and end are the most recent objects
+--     IsRecentOnceHit        so they are once it was opened, where its static row was known before
+--     IsPastNow              a reader reads past the row cache
+--     IsReaderTouched        the rows of lines are the most recent ones of a reader's partition
+--     IsTouchedAsGiven       so those are that a read gives
 --     IsUnwritten, IsPartitionListed, Spares    a partition that no memtable has; one of which something could be evicted; which partitions a command leaves
 --     IsKnownStill, StaysKnown    what is known stays known
-use Rattle.std.specs.Prelude.{◌≡◌, ◌==◌, ◌⊎◌, ℕ, IfSome, IsSomeAnd, IsTrue, List, None, Option, Some, ⊤}
+use Rattle.std.specs.Prelude.{◌≡◌, ◌==◌, ◌⊎◌, ℕ, IfSome, IsSomeAnd, IsTrue, List, None, Some, ⊤}
 use Rattle.std.specs.Map.{lookup}
 use Rattle.rc_position.specs.declared.positions.Pos.{Pos}
 use Rattle.rc_core.specs.Chain.{has_flag}
@@ -33,15 +32,13 @@ use Rattle.rc_lookup.specs.Found.{entry_number}
 use Rattle.rc_lookup.specs.Fillers.{losses}
 use Rattle.rc_stream.specs.Snapshot.{NoneLost, Throughout}
 use Rattle.rc_lookup.specs.Known.{IsChainKnown}
-use Rattle.rc_lookup.specs.Touched.{AreTouched, IsEntryOfGiven, IsMadeRecent}
+use Rattle.rc_lookup.specs.Touched.{AreRecent, AreTouched, IsEntryOfGiven, IsHeadOrEnd}
 use Rattle.rc_lookup.specs.Writes.{chain_of}
-use Rattle.rc_chain.specs.declared.chains.Snap.{Snap}
 use Rattle.rc_paging.specs.Forms.{ByForm}
 use Rattle.rc_paging.specs.Pages.{IsPageKnown}
 use Rattle.rc_machine.specs.State.{Reader, State, reader_of, rest_of}
 use Rattle.rc_shard.specs.declared.readers.PartitionReader.{PartitionReader}
-use Rattle.rc_shard.specs.Readers.{cached_of}
-use Rattle.rc_shard.specs.Releasing.{IsCachedReleased, IsChainListed}
+use Rattle.rc_shard.specs.Releasing.{IsChainListed}
 use Rattle.rc_shard.specs.declared.shard.Shard.{Shard}
 
 -- the row cache knows all of a partition: its static row, and each row and each gap between rows
@@ -73,38 +70,33 @@ OnOpened command reply P = ⊤
 abbrev pub IsReadCached : Shard → ℕ → PartitionReader → Reader → Type 0
 IsReadCached k count o r = ByForm (λ c. IsPageKnown k.unstored.chains c count (rest_of r)) (λ _. ⊤) o.reader
 
--- A cache hit: where the row cache knows all of a partition, opening a reader of it asks the store for nothing, whatever the reply; and so does a read to whose reader's snapshot of the row cache all is known from the reader's place up to right behind the row of the first line that is left after it, or to the slice's end, and the static row.
+-- A cache hit: where the row cache knows the static row of a partition, opening a reader of it asks the store for nothing, whatever the reply; and so does a read to whose reader's snapshot of the row cache all is known from the reader's place up to right behind the row of the first line that is left after it, or to the slice's end, and the static row.
 abbrev pub AsksNothingWhereKnown : State → Command → Shard → (before now : ℕ) → Type 0
-AsksNothingWhereKnown m (OpenRead id key slice) k before now = IsCachedWhole k key → now ≡ before
+AsksNothingWhereKnown m (OpenRead id key slice) k before now = IsStaticCached k key → now ≡ before
 AsksNothingWhereKnown m (Read id count) k before now = (o : PartitionReader) (r : Reader) → lookup (λ q. q == id) k.readers.items ≡ Some o → reader_of id m ≡ Some r → IsReadCached k count o r → now ≡ before
 AsksNothingWhereKnown m command k before now = ⊤
 
--- Once a reader of a partition is opened the row cache knows all of the partition, also what no table holds of it, unless memory was too small for that meanwhile: something of the cache was evicted, or not taken in.
-abbrev pub IsKnownOnceOpened : Command → Reply → Shard → Shard → Type 0
-IsKnownOnceOpened command reply k k' = OnOpened command reply (λ key. NoneLost (losses k.unstored.chains) (losses k'.unstored.chains) → IsCachedWhole k' key)
+-- the static row of a partition and its end are the most recent objects of the cache, those that were in the recency list; all others stand in the order in which they stood
+abbrev pub AreEndsRecent : List ℕ → Shard → Shard → Type 0
+AreEndsRecent key k k' = IsSomeAnd (entry_number k'.cache.entries key) (λ id. AreRecent (IsHeadOrEnd id) k.unstored.chains.recency k'.unstored.chains.recency)
 
--- the objects of a partition are the most recent ones of the cache, all that were in the recency list; those of all others stand in the order in which they stood
-abbrev pub IsPartitionRecent : List ℕ → Shard → Shard → Type 0
-IsPartitionRecent key k k' = IsSomeAnd (entry_number k'.cache.entries key) (λ id. IsMadeRecent id k.unstored.chains.recency k'.unstored.chains.recency)
-
--- A hit: once a reader is opened of a partition of which the row cache knew all, the partition's objects are the most recent ones. So what is evicted first is what was used longest ago.
+-- A hit: once a reader is opened of a partition of which the row cache knew the static row, that and the partition's end are the most recent objects. So what is evicted first is what was used longest ago.
 abbrev pub IsRecentOnceHit : Command → Reply → Shard → Shard → Type 0
-IsRecentOnceHit command reply k k' = OnOpened command reply (λ key. IsCachedWhole k key → IsPartitionRecent key k k')
+IsRecentOnceHit command reply k k' = OnOpened command reply (λ key. IsStaticCached k key → AreEndsRecent key k k')
 
--- memory is as it was, or a reader's snapshot of the row cache was taken back, as it goes on past that
-abbrev pub IsGonePast : Option Snap → Memory → Memory → Type 0
-IsGonePast snap old new = (new ≡ old) ⊎ IsSomeAnd snap (λ s. IsCachedReleased s old new)
+-- the open reader of an id reads past the row cache
+abbrev pub IsPastNow : ℕ → Shard → Type 0
+IsPastNow id k = IsSomeAnd (lookup (λ q. q == id) k.readers.items) (λ o. ByForm (λ _. ⊥) (λ _. ⊤) o.reader)
 
--- the entries of the rows of lines, in the partition of a reader, are the most recent objects of the row cache, all that were in the recency list; all others stand in the order in which they stood, and nothing else of the cache or of memory changed, but that its snapshot of the row cache was taken back where it goes on past that
-pub record IsReaderTouched (lines : List OutLine) (o : PartitionReader) (k k' : Shard) : Type 0 where
-  pub cache : k'.cache ≡ k.cache
+-- the entries of the rows of lines, in the partition of a reader, are the most recent objects of the row cache, all that were in the recency list; all others stand in the order in which they stood. Nothing else of the cache or of memory changed, unless the reader reads past the row cache now.
+pub record IsReaderTouched (id : ℕ) (lines : List OutLine) (o : PartitionReader) (k k' : Shard) : Type 0 where
   pub read : Memory
-  pub past : IsGonePast (cached_of o) k.unstored.chains read
-  pub touched : AreTouched (IsEntryOfGiven (entry_number k.cache.entries o.key) lines) read k'.unstored.chains
+  pub before : ((k'.cache ≡ k.cache) × (read ≡ k.unstored.chains)) ⊎ IsPastNow id k'
+  pub touched : AreTouched (IsEntryOfGiven (entry_number k'.cache.entries o.key) lines) read k'.unstored.chains
 
 -- What is read stays: the entries of the rows that a read gives are the most recent objects of the row cache, those of its reader's partition. So what is evicted first is what was opened or read longest ago.
 abbrev pub IsTouchedAsGiven : Command → Reply → Shard → Shard → Type 0
-IsTouchedAsGiven (Read id count) (Given lines more) k k' = IfSome (lookup (λ q. q == id) k.readers.items) (λ o. IsReaderTouched lines o k k')
+IsTouchedAsGiven (Read id count) (Given lines more) k k' = IfSome (lookup (λ q. q == id) k.readers.items) (λ o. IsReaderTouched id lines o k k')
 IsTouchedAsGiven command reply k k' = ⊤
 
 -- no write that stands in no table names the key

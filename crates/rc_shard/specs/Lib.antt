@@ -8,5 +8,6 @@ pub mod Compacting
 pub mod Evicting
 pub mod Losing
 pub mod Knowing
+pub mod Filling
 pub mod Opening
 pub mod calls

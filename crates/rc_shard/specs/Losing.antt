@@ -1,5 +1,5 @@
 -- When the row cache gives something up.
---     IsCrowdedSince     how full memory is where an opening or a flush lost something
+--     IsCrowdedSince     how full memory is where an opening, a read or a flush lost something
 --     LosesInCrowd       so full it is where something was lost
 --     LosesForWrite      so it is where something was evicted for a write
 --     IsLostInCrowd      by which commands that is so
@@ -7,7 +7,7 @@ use Rattle.std.specs.Prelude.{◌⊎◌, ◌+◌, ◌-◌, ◌*◌, ◌/◌, ◌
 use Rattle.lsa_pool.specs.Room.{spare_of}
 use Rattle.lsa_region.specs.Region.{live_bytes}
 use Rattle.rc_lines.specs.declared.commands.Command.{Command}
-use Rattle.rc_lines.specs.declared.commands.Command.TheVariants.{Flush, OpenRead, Put}
+use Rattle.rc_lines.specs.declared.commands.Command.TheVariants.{Flush, OpenRead, Put, Read}
 use Rattle.rc_memory.specs.Memory.{Memory}
 use Rattle.rc_lookup.specs.Crowding.{LosesNothing, versions_of}
 use Rattle.rc_lookup.specs.Footprint.{IsCrowdedForWrite}
@@ -24,9 +24,10 @@ LosesInCrowd old new = LosesNothing old new ⊎ (IsCrowdedSince old new ⊎ (2 ^
 abbrev pub LosesForWrite : Memory → Memory → Type 0
 LosesForWrite old new = LosesNothing old new ⊎ ((spare_of 131072 old.region.usages < 7 * 131072 / 8) × IsCrowdedForWrite 131072 old new)
 
--- No opening, flush or write gives something up without need: the first two evict and skip only where memory is so full, and a write evicts only where it was too full for it.
+-- No opening, read, flush or write gives something up without need: the first three evict and skip only where memory is so full, and a write evicts only where it was too full for it.
 abbrev pub IsLostInCrowd : Command → Memory → Memory → Type 0
 IsLostInCrowd (OpenRead id key slice) old new = LosesInCrowd old new
+IsLostInCrowd (Read id count) old new = LosesInCrowd old new
 IsLostInCrowd (Put w) old new = LosesForWrite old new
 IsLostInCrowd Flush old new = LosesInCrowd old new
 IsLostInCrowd command old new = ⊤

@@ -7,6 +7,7 @@ mod forgetting;
 mod leaving;
 mod putting;
 mod readers;
+mod reading;
 mod releasing;
 mod resaying;
 mod shard;

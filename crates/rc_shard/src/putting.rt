@@ -1,6 +1,5 @@
 //! A write is put behind the later ones.
 ghost use Rattle.std.specs.Prelude.{◌≡◌, List as Sequence, IfOk, OnErr, OnOk, true, false};
-ghost use Rattle.rc_schema.specs.SchemaValue.{SchemaValue};
 ghost use Rattle.rc_writes.specs.Allowed.{ChangeFits};
 ghost use Rattle.rc_writes.specs.Single.{IsSingle};
 ghost use Rattle.rc_mutation.specs.declared.mutations.Write.{Write as Written};

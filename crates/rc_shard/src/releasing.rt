@@ -6,6 +6,7 @@ ghost use Rattle.rc_chain.specs.declared.chains.Snap.{Snap as Snapshot};
 ghost use Rattle.rc_cached.specs.Stands.{HasCacheSnapshot};
 ghost use Rattle.rc_snapshots.specs.Seeing.{HasSnap};
 ghost use Rattle.rc_snapshots.specs.Snapshots.{kind_seen};
+ghost use Rattle.rc_lookup.specs.Crowding.{LosesWhereCrowded};
 ghost use Rattle.rc_lookup.specs.Detached.{IsDetached};
 ghost use Rattle.rc_lookup.specs.Evictions.{AreEvicted, IsRoomMade};
 ghost use Rattle.rc_lookup.specs.Leaving.{AreCachesSame};
@@ -18,7 +19,9 @@ use rc_lookup::Chains;
 use rc_lookup::entries_laws::{
     each_change_leaves_the_caches_chains, what_leaves_the_caches_chains_leaves_the_entries,
 };
-use rc_lookup::evict_laws::evictions_leave_the_use_of_a_chain;
+use rc_lookup::evict_laws::{
+    a_chain_that_is_dropped_had_its_ends_alone, evictions_leave_the_use_of_a_chain,
+};
 use rc_lookup::footprint::{
     chains_of_the_cache_stay_in_use, each_chain_of_the_cache_has_one_version,
     what_calls_leave_of_memtables,
@@ -32,8 +35,10 @@ use rc_snapshots::Snap;
 /// Takes a snapshot of a chain of the row cache back. The chain goes with it, where nothing pins it then and nothing of it could be evicted.
 pub(crate) fn release_cached(chains: &mut Chains<131_072>, snap: Snap)
     requires { HasCacheSnapshot chains.old snap.chain snap.pin }
-    ensures { IsCachedReleased snap chains.old chains.new }
+    ensures released { IsCachedReleased snap chains.old chains.new }
+    ensures loses { LosesWhereCrowded 131072 0 chains.old chains.new }
 {
+    a_chain_that_is_dropped_had_its_ends_alone();
     chains_of_the_cache_stay_in_use();
     each_chain_of_the_cache_has_one_version();
     each_change_leaves_the_caches_chains();
@@ -43,13 +48,16 @@ pub(crate) fn release_cached(chains: &mut Chains<131_072>, snap: Snap)
     what_leaves_the_caches_chains_leaves_the_entries();
     let chain = snap.chain;
     chains.release(snap);
+    chains.known();
     chains.sweep(chain);
+    chains.known();
 }
 
 /// Takes a snapshot of a chain of the row cache back, where there is one.
 pub(crate) fn give_back(chains: &mut Chains<131_072>, snap: Option<Snap>)
     requires { IsCachedThere chains.old snap }
-    ensures { IsSnapGivenBack snap chains.old chains.new }
+    ensures back { IsSnapGivenBack snap chains.old chains.new }
+    ensures loses { LosesWhereCrowded 131072 0 chains.old chains.new }
 {
     if let Some(snap) = snap {
         release_cached(chains, snap);

@@ -1,5 +1,5 @@
 //! The shard.
-ghost use Rattle.std.specs.Prelude.{◌≡◌, ◌+◌, ◌*◌, ◌≤◌, ◌<◌, ◌==◌, ◌++◌, ◌∷◌, [], ℕ, List, Option, None, Some, IsSome, IsTrue, IfErr, IfOk, IfSome, OnErr, OnOk, get_or, length, position};
+ghost use Rattle.std.specs.Prelude.{◌≡◌, ◌⊎◌, ◌+◌, ◌*◌, ◌≤◌, ◌<◌, ◌==◌, ◌++◌, ◌∷◌, [], ℕ, List, Option, None, Some, IsSome, IsTrue, IfErr, IfOk, IfSome, OnErr, OnOk, length, position};
 ghost use Rattle.std.specs.FinMap.{values};
 ghost use Rattle.std.specs.Vec.{vec_capacity};
 ghost use Rattle.rc_outside.specs.Files.{Files, HoldsSameFiles};
@@ -13,32 +13,30 @@ ghost use Rattle.rc_stream.specs.Snapshot.{NoneLost};
 ghost use Rattle.rc_stream.specs.Stream.{stream_of};
 ghost use Rattle.rc_lookup.specs.Crowding.{LosesWhereCrowded};
 ghost use Rattle.rc_lookup.specs.Fillers.{losses};
-ghost use Rattle.rc_lookup.specs.Found.{entry_number};
-ghost use Rattle.rc_lookup.specs.Touched.{AreTouched, IsEntryOfGiven};
+ghost use Rattle.rc_lookup.specs.Known.{KnowsStaticRow};
 ghost use Rattle.rc_tables.specs.Tables.{IsDamageOf, listing};
 ghost use Rattle.rc_lines.specs.Fits.{CommandFits};
 ghost use Rattle.rc_machine.specs.Built.{is_built};
 ghost use Rattle.rc_machine.specs.Serving.{FaultsAreCounted, OnFaulty, Stops, Takes, checks_of, most_asks};
-ghost use Rattle.rc_machine.specs.State.{Reader, State, Table, opened_state, reader_of};
+ghost use Rattle.rc_machine.specs.State.{State, Table, opened_state};
 ghost use Rattle.rc_machine.specs.Tables.{AreListed, AreTables};
 ghost use Rattle.rc_machine.specs.Steps.{IsSaid, reader_with};
 ghost use Rattle.rc_tfile.specs.declared.info.TableInfo.{TableInfo};
 ghost use Rattle.rc_folder.specs.Counting.{AreCounted, AreFresh, figures_in};
 ghost use Rattle.rc_folder.specs.Opening.{IsOpeningRefused, OnOpenFault};
-ghost use Rattle.rc_folder.specs.Tabled.{IsNextNumber, IsSaidByFirst};
+ghost use Rattle.rc_folder.specs.Tabled.{IsNextNumber};
 ghost use Rattle.rc_shard.specs.Counting.{figures_of};
 ghost use Rattle.rc_shard.specs.Compacting.{IsCompactedAsTold};
 ghost use Rattle.rc_shard.specs.Evicting.{IsEvictedAsTold, IsLostAsTold};
 ghost use Rattle.rc_shard.specs.Losing.{IsLostInCrowd, LosesForWrite, LosesInCrowd};
-ghost use Rattle.rc_shard.specs.Knowing.{AsksNothingWhereKnown, IsCachedWhole, IsKnownOnceOpened, IsReadCached, IsKnownStill, IsPartitionRecent, IsRecentOnceHit, IsTouchedAsGiven, StaysKnown};
+ghost use Rattle.rc_shard.specs.Knowing.{AreEndsRecent, AsksNothingWhereKnown, IsCachedWhole, IsKnownStill, IsRecentOnceHit, IsStaticCached, IsTouchedAsGiven, StaysKnown};
+ghost use Rattle.rc_shard.specs.Filling.{IsFilledAsTold, IsHeldByReader, IsPassedAsTold};
 ghost use Rattle.rc_shard.specs.Opening.{IsOpenedAsTold};
-ghost use Rattle.rc_shard.specs.Readers.{cached_of, number_of_snaps};
+ghost use Rattle.rc_shard.specs.Readers.{number_of_snaps};
 ghost use Rattle.rc_shard.specs.Stands.{IsFullAsTold, StandsBeside};
-ghost use Rattle.rc_shard.specs.calls.Caching.{LeavesCache};
-ghost use Rattle.rc_shard.specs.calls.Keeping.{CountsStay, StandsForTheSame, TellsOf};
-ghost use Rattle.rc_shard.specs.calls.Looking.{AreKnownStill, IsCacheLeft, IsCacheUsed, IsEntrySnapshot, IsSourceIn, KeepsOver, UnlessMemory, source_snap, snap_taken, source_taken};
+ghost use Rattle.rc_shard.specs.calls.Keeping.{CountsStay, StandsForTheSame};
+ghost use Rattle.rc_shard.specs.calls.Looking.{AreKnownStill, IsCacheLeft, IsCacheUsed, IsEntrySnapshot, IsSourceIn, IsSourceKnown, KeepsOver, UnlessMemory, source_snap, snap_taken, source_taken};
 ghost use Rattle.rc_shard.specs.calls.Opened.{IsReaderPinned};
-ghost use Rattle.rc_shard.specs.calls.Reading.{IsBesideChains, IsGonePastAt, IsPaged, IsPagedBeside, IsGoneOn};
 ghost use Rattle.rc_shard.specs.calls.Storing.{IsFlushAnswered, KeepsUnstored};
 
 use crate::compacting::compact;
@@ -47,8 +45,7 @@ use crate::forgetting::forget_all;
 use crate::leaving::{what_calls_leave_of_the_cache, what_is_live_is_of_memtables};
 use crate::putting::put_in;
 use crate::readers::{Opening, PartitionReader, Source, close_all, held_of, open_in, release_held};
-use crate::releasing::give_back;
-use crate::resaying::what_is_told_anew;
+use crate::reading::{not_read, place_of};
 use crate::staying::a_reader_stays;
 use rc_census::census;
 use rc_chain::Snap;
@@ -60,13 +57,12 @@ use rc_lookup::unstored_laws::{
     both_say_what_was_written, what_a_call_leaves_of_the_room,
     what_leaves_the_chains_of_both_leaves_their_writes,
 };
-use rc_lookup::{Chains, RowCache, Unstored, keep_recent, take_known, take_populated};
+use rc_lookup::{Chains, RowCache, Unstored, take_known, take_populated};
 use rc_mutation::laws::a_join_says_what_the_writes_say;
 use rc_mutation::{Mutation, Write};
 use rc_outside::Store;
-use rc_paging::{LeavesOver, PageErr, PartReader};
+use rc_paging::{LeavesOver, PartReader};
 use rc_position::{PartKey, Slice};
-use rc_query::Lines;
 use rc_schema::Schema;
 use rc_stream::{ListFrags, StreamErr};
 use rc_tfile::WriteErr;
@@ -75,13 +71,14 @@ use std::alloc::{AllocError, Global};
 
 /// One shard: it takes one step of the machine after another. What is written and stands in no table lies in version chains, in a region
 /// of segments of 131,072 bytes, and so does what the row cache knows of the tables. An open reader pins the versions that it sees, of what is
-/// written and of what the row cache knows of its partition, which is filled with it where it does not know it; where it knows no longer what a
-/// read needs, as it was evicted, the reader goes on past it, over what it reads of the tables that it was opened over.
+/// written and of what the row cache has of its partition, which is filled with it where it does not know its static row; where it does not know
+/// what a read needs, as it was evicted, the tables that the reader was opened over are read, what they say is put into the row cache again, and
+/// the reader goes on past that.
 pub struct Shard {
-    folder: Folder,
-    unstored: Unstored<131_072>,
-    cache: RowCache,
-    readers: Vec<(u32, PartitionReader)>,
+    pub(crate) folder: Folder,
+    pub(crate) unstored: Unstored<131_072>,
+    pub(crate) cache: RowCache,
+    pub(crate) readers: Vec<(u32, PartitionReader)>,
     answered: Answered,
     segments: u32,
     asked: u64,
@@ -166,7 +163,8 @@ impl Machine for Shard {
         ensures full { IfOk result (λ reply. IsFullAsTold command.now reply self.old.folder.schema self.new.unstored) }
         ensures pins { IfOk result (λ reply. IsOpenedAsTold command.now reply self.old.readers.items self.old.unstored self.new.readers.items self.new.unstored) }
         ensures known { (m : State) → ⟦<Shard as Machine>⟧.stands (W.files store.old) self.old m → AsksNothingWhereKnown m command.now self.old (W.asks store.old) (W.asks store.new) }
-        ensures filled { IfOk result (λ reply. IsKnownOnceOpened command.now reply self.old self.new) }
+        ensures filled { IfOk result (λ reply. IsFilledAsTold command.now reply (W.asks store.old) (W.asks store.new) self.old self.new) }
+        ensures passes { (m : State) → ⟦<Shard as Machine>⟧.stands (W.files store.old) self.old m → IfOk result (λ reply. IsPassedAsTold m command.now reply self.old self.new) }
         ensures recent { IfOk result (λ reply. IsRecentOnceHit command.now reply self.old self.new) }
         ensures touches { IfOk result (λ reply. IsTouchedAsGiven command.now reply self.old self.new) }
         ensures stays { OnOk result (StaysKnown command.now self.old self.new) }
@@ -243,7 +241,8 @@ impl Shard {
         ensures full { IfOk result (λ reply. IsFullAsTold command.now reply self.old.folder.schema self.new.unstored) }
         ensures pins { IfOk result (λ reply. IsOpenedAsTold command.now reply self.old.readers.items self.old.unstored self.new.readers.items self.new.unstored) }
         ensures known { (m : State) → ⟦<Shard as Machine>⟧.stands (W.files store.old) self.old m → AsksNothingWhereKnown m command.now self.old (W.asks store.old) (W.asks store.new) }
-        ensures filled { IfOk result (λ reply. IsKnownOnceOpened command.now reply self.old self.new) }
+        ensures filled { IfOk result (λ reply. IsFilledAsTold command.now reply (W.asks store.old) (W.asks store.new) self.old self.new) }
+        ensures passes { (m : State) → ⟦<Shard as Machine>⟧.stands (W.files store.old) self.old m → IfOk result (λ reply. IsPassedAsTold m command.now reply self.old self.new) }
         ensures recent { IfOk result (λ reply. IsRecentOnceHit command.now reply self.old self.new) }
         ensures touches { IfOk result (λ reply. IsTouchedAsGiven command.now reply self.old self.new) }
         ensures stays { OnOk result (StaysKnown command.now self.old self.new) }
@@ -333,8 +332,8 @@ impl Shard {
         ensures store { HoldsSameFiles W.files W.building store.old store.new }
         ensures asks { W.asks store.new ≤ W.asks store.old + 2 * listing key.now self.old.folder.infos }
         ensures pins { IfOk result (λ reply. IsOpenedAsTold (Command.OpenRead id key.now slice.now) reply self.old.readers.items self.old.unstored self.new.readers.items self.new.unstored) }
-        ensures known { IsCachedWhole self.old key.now → W.asks store.new ≡ W.asks store.old }
-        ensures filled { IfOk result (λ reply. IsKnownOnceOpened (Command.OpenRead id key.now slice.now) reply self.old self.new) }
+        ensures known { IsStaticCached self.old key.now → W.asks store.new ≡ W.asks store.old }
+        ensures filled { IfOk result (λ reply. IsFilledAsTold (Command.OpenRead id key.now slice.now) reply (W.asks store.old) (W.asks store.new) self.old self.new) }
         ensures recent { IfOk result (λ reply. IsRecentOnceHit (Command.OpenRead id key.now slice.now) reply self.old self.new) }
         ensures stays { OnOk result (AreKnownStill self.old self.new) }
         ensures crowds { OnOk result (LosesInCrowd self.old.unstored.chains self.new.unstored.chains) }
@@ -365,7 +364,7 @@ impl Shard {
         })
     }
 
-    // What tells what the tables say of a partition: a snapshot of the row cache, where that knows all of it; else they are read, and the cache is filled.
+    // What tells what the tables say of a partition: a snapshot of the row cache, where that knows its static row; else they are read, and the cache is filled.
     fn source_of<W: Store>(
         &mut self,
         alloc: Global,
@@ -374,10 +373,11 @@ impl Shard {
     ) -> Result<Source, StreamErr>
         requires { (m : State) × ⟦<Shard as Machine>⟧.stands (W.files store.old) self.old m }
         ensures says { (m : State) → ⟦<Shard as Machine>⟧.stands (W.files store.old) self.old m → IfOk result (IsSourceIn self.new m key.now) }
-        ensures known { IsCachedWhole self.old key.now → W.asks store.new ≡ W.asks store.old }
-        ensures whole { OnOk result (NoneLost (losses self.old.unstored.chains) (losses self.new.unstored.chains) → IsCachedWhole self.new key.now) }
+        ensures known { IsStaticCached self.old key.now → W.asks store.new ≡ W.asks store.old }
+        ensures held { IfOk result (λ source. NoneLost (losses self.old.unstored.chains) (losses self.new.unstored.chains) → IsSourceKnown self.new.unstored.chains source) }
+        ensures whole { OnOk result (NoneLost (losses self.old.unstored.chains) (losses self.new.unstored.chains) → IsStaticCached self.old key.now ⊎ IsCachedWhole self.new key.now) }
         ensures stays { UnlessMemory result (AreKnownStill self.old self.new) }
-        ensures hit { OnOk result (IsCachedWhole self.old key.now → IsPartitionRecent key.now self.old self.new) }
+        ensures hit { OnOk result (IsStaticCached self.old key.now → AreEndsRecent key.now self.old self.new) }
         ensures keeps { (m : State) → ⟦<Shard as Machine>⟧.stands (W.files store.old) self.old m → StandsBeside ⟦<PartReader as LeavesOver<Chains<131_072>>>⟧.lines (number_of_snaps (source_taken result)) (W.files store.old) self.new m }
         ensures loses { LosesWhereCrowded 131072 1 self.old.unstored.chains self.new.unstored.chains }
         ensures beside { IsCacheUsed (source_taken result) self.old self.new }
@@ -393,14 +393,14 @@ impl Shard {
         }
     }
 
-    // A snapshot of what the row cache has of a partition, where it knows all of it. The only error is want of memory.
+    // A snapshot of what the row cache has of a partition, where it knows its static row. The only error is want of memory.
     fn look_up(&mut self, alloc: Global, key: &PartKey) -> Result<Option<Snap>, AllocError>
         requires { (files : Option Files) × (m : State) × ⟦<Shard as Machine>⟧.stands files self.old m }
         ensures says { (files : Option Files) (m : State) → ⟦<Shard as Machine>⟧.stands files self.old m → IfOk result (λ o. IfSome o (IsEntrySnapshot self.new key.now)) }
-        ensures known { IsCachedWhole self.old key.now → IfOk result IsSome }
-        ensures whole { IfOk result (λ o. IfSome o (λ _. IsCachedWhole self.new key.now)) }
+        ensures known { IsStaticCached self.old key.now → IfOk result IsSome }
+        ensures head { IfOk result (λ o. IfSome o (λ s. KnowsStaticRow self.new.unstored.chains s × IsStaticCached self.old key.now)) }
         ensures stays { (q : List ℕ) → IsKnownStill q self.old self.new }
-        ensures hit { IfOk result (λ o. IfSome o (λ _. IsPartitionRecent key.now self.old self.new)) }
+        ensures hit { IfOk result (λ o. IfSome o (λ _. AreEndsRecent key.now self.old self.new)) }
         ensures keeps { (files : Option Files) (m : State) → ⟦<Shard as Machine>⟧.stands files self.old m → StandsBeside ⟦<PartReader as LeavesOver<Chains<131_072>>>⟧.lines (number_of_snaps (snap_taken result)) files self.new m }
         ensures loses { LosesWhereCrowded 131072 0 self.old.unstored.chains self.new.unstored.chains }
         ensures beside { IsCacheUsed (snap_taken result) self.old self.new }
@@ -420,6 +420,7 @@ impl Shard {
     ) -> Result<Source, StreamErr>
         requires { (m : State) × ⟦<Shard as Machine>⟧.stands (W.files store.old) self.old m }
         ensures says { (m : State) → ⟦<Shard as Machine>⟧.stands (W.files store.old) self.old m → IfOk result (IsSourceIn self.new m key.now) }
+        ensures held { IfOk result (λ source. NoneLost (losses self.old.unstored.chains) (losses self.new.unstored.chains) → IsSourceKnown self.new.unstored.chains source) }
         ensures whole { OnOk result (NoneLost (losses self.old.unstored.chains) (losses self.new.unstored.chains) → IsCachedWhole self.new key.now) }
         ensures stays { UnlessMemory result (AreKnownStill self.old self.new) }
         ensures keeps { (m : State) → ⟦<Shard as Machine>⟧.stands (W.files store.old) self.old m → StandsBeside ⟦<PartReader as LeavesOver<Chains<131_072>>>⟧.lines (number_of_snaps (source_taken result)) (W.files store.old) self.new m }
@@ -445,6 +446,7 @@ impl Shard {
         requires fits { ChangeFits self.old.folder.schema read.now }
         ensures says { (files : Option Files) (m : State) (said : List Change) → ⟦<Shard as Machine>⟧.stands files self.old m → IsSaid m key.now said → IsJoinOf read.now said → IfOk result (IsSourceIn self.new m key.now) }
         ensures refused { IfErr result (λ error. error ≡ StreamErr.NoMemory) }
+        ensures held { IfOk result (λ source. NoneLost (losses self.old.unstored.chains) (losses self.new.unstored.chains) → IsSourceKnown self.new.unstored.chains source) }
         ensures whole { OnOk result (NoneLost (losses self.old.unstored.chains) (losses self.new.unstored.chains) → IsCachedWhole self.new key.now) }
         ensures stays { OnOk result (AreKnownStill self.old self.new) }
         ensures keeps { (files : Option Files) (m : State) (said : List Change) → ⟦<Shard as Machine>⟧.stands files self.old m → IsSaid m key.now said → IsJoinOf read.now said → StandsBeside ⟦<PartReader as LeavesOver<Chains<131_072>>>⟧.lines (number_of_snaps (source_taken result)) files self.new m }
@@ -477,6 +479,7 @@ impl Shard {
         ensures pins { IfOk result (λ _. IsReaderPinned id opening.key source self.old.readers.items self.old.unstored self.new.readers.items self.new.unstored) }
         ensures opened { (files : Option Files) (m : State) → StandsBeside ⟦<PartReader as LeavesOver<Chains<131_072>>>⟧.lines (number_of_snaps (source_snap source)) files self.old m → IsSourceIn self.old m opening.key source →
             (said : List Change) × IsSaid m opening.key said × IfOk result (λ _. ⟦<Shard as Machine>⟧.stands files self.new (record m { readers = m.readers ++ (id, reader_with m opening.key opening.slice said) ∷ [] })) }
+        ensures held { (m : State) → IsSourceIn self.old m opening.key source → IfOk result (λ _. IsSourceKnown self.old.unstored.chains source → IsHeldByReader id opening.key self.new) }
         ensures stays { IfOk result (λ _. (q : List ℕ) → IsKnownStill q self.old self.new) }
         ensures recency { IfOk result (λ _. (self.new.cache.entries ≡ self.old.cache.entries) × (self.new.unstored.chains.recency ≡ self.old.unstored.chains.recency)) }
         ensures loses { OnOk result (LosesWhereCrowded 131072 0 self.old.unstored.chains self.new.unstored.chains) }
@@ -491,123 +494,6 @@ impl Shard {
             Ok(()) => Ok(Reply::Fine),
             Err(_) => unreachable!(),
         }
-    }
-
-    // Gives a reader's next lines, whose rows become the most recent ones of the row cache. Where the row cache no longer has what is needed the reader goes on past it, over what is read of the tables of its opening.
-    fn read<W: Store>(
-        &mut self,
-        alloc: Global,
-        store: &mut W,
-        id: u32,
-        count: u32,
-    ) -> Result<Reply, AllocError>
-        requires { (m : State) × ⟦<Shard as Machine>⟧.stands (W.files store.old) self.old m }
-        ensures step { IfOk result (λ reply. Takes ⟦<Shard as Machine>⟧.stands (W.files store.old) self.old (Command.Read id count) reply (W.files store.new) self.new) }
-        ensures err { OnErr result (Stops ⟦<Shard as Machine>⟧.stands (W.files store.old) self.old (Command.Read id count) (W.files store.new) self.new) }
-        ensures faults { FaultsAreCounted result (W.faults store.old) (W.faults store.new) }
-        ensures asks { (m : State) → ⟦<Shard as Machine>⟧.stands (W.files store.old) self.old m → W.asks store.new ≤ W.asks store.old + most_asks m (Command.Read id count) }
-        ensures known { (m : State) → ⟦<Shard as Machine>⟧.stands (W.files store.old) self.old m → AsksNothingWhereKnown m (Command.Read id count) self.old (W.asks store.old) (W.asks store.new) }
-        ensures same { self.new.unstored.chains.counts ≡ self.old.unstored.chains.counts }
-        ensures stays { StaysKnown (Command.Read id count) self.old self.new }
-        ensures touches { IfOk result (λ reply. IsTouchedAsGiven (Command.Read id count) reply self.old self.new) }
-        ensures counts { CountsStay self.old self.new }
-    {
-        self.unstored.chains.known();
-        match place_of(self.readers.as_slice(), id) {
-            None => Ok(Reply::Refused(Refusal::NoReader)),
-            Some(at) => match self.page(alloc, at, count) {
-                Ok((lines, more)) => Ok(self.give(at, lines, more)),
-                Err(PageErr::Missing) => self.read_past(alloc, store, at, count),
-                Err(PageErr::NoMemory) => Err(AllocError),
-            },
-        }
-    }
-
-    // Gives a reader's next lines, where what is needed is in memory; else nothing changes.
-    fn page(&mut self, alloc: Global, at: usize, count: u32) -> Result<(Lines, bool), PageErr>
-        requires { (id : ℕ) × (files : Option Files) × (m : State) × ⟦<Shard as Machine>⟧.stands files self.old m × (position (λ reader. reader.0 == id) self.old.readers.items ≡ Some at) }
-        ensures gives { (id : ℕ) (files : Option Files) (m : State) → ⟦<Shard as Machine>⟧.stands files self.old m → position (λ reader. reader.0 == id) self.old.readers.items ≡ Some at → IfOk result (λ gave. IsPaged ⟦<Shard as Machine>⟧.stands files id count m gave self.new) }
-        ensures err { OnErr result (StandsForTheSame ⟦<Shard as Machine>⟧.stands self.old self.new) }
-        ensures known { (id : ℕ) (files : Option Files) (m : State) (o : ℕ × PartitionReader) (r : Reader) → ⟦<Shard as Machine>⟧.stands files self.old m → position (λ reader. reader.0 == id) self.old.readers.items ≡ Some at → get_or self.old.readers.items at o ≡ o → reader_of id m ≡ Some r → IsReadCached self.old count o.1 r → IfErr result (λ e. e ≡ PageErr.NoMemory) }
-        ensures beside { IsPagedBeside at self.old self.new }
-    {
-        a_reader_stays();
-        let reader = &mut self.readers[at].1;
-        reader
-            .reader
-            .read(alloc, &mut self.unstored.chains, None, count)
-    }
-
-    // The reply of lines that a reader gave, whose rows become the most recent ones of the row cache.
-    fn give(&mut self, at: usize, lines: Lines, more: bool) -> Reply
-        requires { (id : ℕ) × (files : Option Files) × (m : State) × ⟦<Shard as Machine>⟧.stands files self.old m × (position (λ reader. reader.0 == id) self.old.readers.items ≡ Some at) }
-        ensures reply { result ≡ Reply.Given lines more }
-        ensures keeps { StandsForTheSame ⟦<Shard as Machine>⟧.stands self.old self.new }
-        ensures touches { (o : ℕ × PartitionReader) → get_or self.old.readers.items at o ≡ o → AreTouched (IsEntryOfGiven (entry_number self.old.cache.entries o.1.key) lines) self.old.unstored.chains self.new.unstored.chains }
-        ensures beside { IsBesideChains self.old self.new }
-        ensures left { LeavesCache self.old.unstored.chains self.new.unstored.chains }
-    {
-        a_reader_stays();
-        what_leaves_the_chains_of_both_leaves_their_writes();
-        let key = &self.readers[at].1.key;
-        let chains = &mut self.unstored.chains;
-        keep_recent(&self.cache, chains, key, lines.as_slice());
-        Reply::Given { lines, more }
-    }
-
-    // Reads a reader's partition from the tables of its opening, and gives its next lines past the row cache.
-    fn read_past<W: Store>(
-        &mut self,
-        alloc: Global,
-        store: &mut W,
-        at: usize,
-        count: u32,
-    ) -> Result<Reply, AllocError>
-        requires { (id : ℕ) × (m : State) × ⟦<Shard as Machine>⟧.stands (W.files store.old) self.old m × (position (λ reader. reader.0 == id) self.old.readers.items ≡ Some at) }
-        ensures step { (id : ℕ) → position (λ reader. reader.0 == id) self.old.readers.items ≡ Some at → IfOk result (λ reply. Takes ⟦<Shard as Machine>⟧.stands (W.files store.old) self.old (Command.Read id count) reply (W.files store.new) self.new) }
-        ensures err { (id : ℕ) → position (λ reader. reader.0 == id) self.old.readers.items ≡ Some at → OnErr result (Stops ⟦<Shard as Machine>⟧.stands (W.files store.old) self.old (Command.Read id count) (W.files store.new) self.new) }
-        ensures faults { FaultsAreCounted result (W.faults store.old) (W.faults store.new) }
-        ensures asks { (id : ℕ) (m : State) → position (λ reader. reader.0 == id) self.old.readers.items ≡ Some at → ⟦<Shard as Machine>⟧.stands (W.files store.old) self.old m → W.asks store.new ≤ W.asks store.old + most_asks m (Command.Read id count) }
-        ensures same { self.new.unstored.chains.counts ≡ self.old.unstored.chains.counts }
-        ensures stays { (id : ℕ) → StaysKnown (Command.Read id count) self.old self.new }
-        ensures touches { (id : ℕ) → position (λ reader. reader.0 == id) self.old.readers.items ≡ Some at → IfOk result (λ reply. IsTouchedAsGiven (Command.Read id count) reply self.old self.new) }
-        ensures counts { CountsStay self.old self.new }
-    {
-        a_join_says_what_the_writes_say();
-        what_says_the_same_fits();
-        self.unstored.chains.known();
-        let reader = &self.readers[at].1;
-        match self
-            .folder
-            .read_first(alloc, store, &reader.key, &reader.tables)
-        {
-            Ok(read) => {
-                self.go_past(alloc, at, read)?;
-                match self.page(alloc, at, count) {
-                    Ok((lines, more)) => Ok(self.give(at, lines, more)),
-                    Err(_) => Err(AllocError),
-                }
-            }
-            Err(error) => not_read(error),
-        }
-    }
-
-    // A reader goes on past the row cache, over what was read of the tables of its opening; its snapshot of the row cache is taken back. The only error is want of memory: then it is as it was.
-    fn go_past(&mut self, alloc: Global, at: usize, read: Mutation) -> Result<(), AllocError>
-        requires { (id : ℕ) × (files : Option Files) × (m : State) × ⟦<Shard as Machine>⟧.stands files self.old m × (position (λ reader. reader.0 == id) self.old.readers.items ≡ Some at) }
-        ensures past { (id : ℕ) (files : Option Files) (m : State) (o : ℕ × PartitionReader) (said : List Change) → ⟦<Shard as Machine>⟧.stands files self.old m → position (λ reader. reader.0 == id) self.old.readers.items ≡ Some at → get_or self.old.readers.items at o ≡ o → IsSaidByFirst m o.1.tables o.1.key said → IsJoinOf read said → IsMutation read → ChangeFits self.old.folder.schema read →
-            OnOk result (IsGoneOn ⟦<Shard as Machine>⟧.stands files id m self.new) }
-        ensures err { OnErr result (StandsForTheSame ⟦<Shard as Machine>⟧.stands self.old self.new × IsPagedBeside at self.old self.new) }
-        ensures gone { (o : ℕ × PartitionReader) → get_or self.old.readers.items at o ≡ o → OnOk result (IsGonePastAt at o self.old self.new) }
-    {
-        a_reader_stays();
-        what_is_told_anew();
-        what_leaves_the_chains_of_both_leaves_their_writes();
-        let reader = &mut self.readers[at].1;
-        let chains = &mut self.unstored.chains;
-        let snap = reader.reader.go_past(alloc, chains, read, &reader.key)?;
-        give_back(chains, snap);
-        Ok(())
     }
 
     // Closes a reader: its snapshots are taken back.
@@ -699,26 +585,6 @@ fn stream_read(alloc: Global, read: &Mutation) -> Result<Source, StreamErr>
     match read.fragments(alloc) {
         Ok(list) => Ok(Source::Read(ListFrags::new(list))),
         Err(_) => Err(StreamErr::NoMemory),
-    }
-}
-
-// The place of the reader with an id.
-fn place_of(readers: &[(u32, PartitionReader)], id: u32) -> Option<usize>
-    ensures { result ≡ position (λ reader. reader.0 == id) readers.now }
-{
-    readers.iter().position(|reader| reader.0 == id)
-}
-
-// The reply to an opening, where what the tables say could not be read.
-fn not_read(error: StreamErr) -> Result<Reply, AllocError>
-    ensures { IfOk result (TellsOf error) }
-{
-    match error {
-        StreamErr::Fault => Ok(Reply::Refused(Refusal::ReadFault)),
-        StreamErr::Damaged { file, offset } => {
-            Ok(Reply::Refused(Refusal::Damaged { file, offset }))
-        }
-        StreamErr::NoMemory => Err(AllocError),
     }
 }
 

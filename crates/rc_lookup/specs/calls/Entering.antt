@@ -1,11 +1,7 @@
 -- What fills through a snapshot leave, and what is left while it is there.
---     KnowsStaticRow     the static row is known to a snapshot
 --     IsFilledThrough    any number of fills through a snapshot
 --     IsPartlyHeld       the head of its partition is known to a snapshot that may be filled through
---     IsHeldWhole        all is known to a snapshot that was filled
-use Rattle.std.specs.Prelude.{◌≡◌, ◌⊎◌, ℕ, Contains, IsTrue, Some, None}
-use Rattle.rc_core.specs.Chain.{has_flag}
-use Rattle.rc_core.specs.Continuity.{static_states}
+use Rattle.std.specs.Prelude.{◌≡◌, ◌⊎◌, ℕ, Contains, Some, None}
 use Rattle.rc_core.specs.Version.{end_position}
 use Rattle.rc_registry.specs.Registry.{IsNumberIn}
 use Rattle.rc_memory.specs.Changes.{member_at}
@@ -13,16 +9,11 @@ use Rattle.rc_memory.specs.Memory.{KeptChain, Member, Memory, chain_at}
 use Rattle.rc_chain.specs.declared.chains.Snap.{Snap}
 use Rattle.rc_cached.specs.Filling.{MayFill}
 use Rattle.rc_stream.specs.Snapshot.{NoneLost}
-use Rattle.rc_cursor.specs.Snapshots.{kind_seen, versions_seen}
 use Rattle.rc_row_cache.specs.Fillers.{losses}
 use Rattle.rc_cached.specs.Fills.{IsUsedAsBefore}
 use Rattle.rc_row_cache.specs.Saying.{AreFillsDone}
+use Rattle.rc_lookup.specs.Known.{KnowsStaticRow}
 use Rattle.rc_lookup.specs.Rest.{LeavesRest}
-use Rattle.rc_lookup.specs.calls.Known.{IsSnapKnown}
-
--- the static row is known to a snapshot
-abbrev pub KnowsStaticRow : Memory → Snap → Type 0
-KnowsStaticRow m s = IsTrue (has_flag (kind_seen m s) (static_states (versions_seen m s)))
 
 -- Any number of fills through a snapshot. All else is left; each chain is there still and used as before, or it is gone and its number is to be told, and none came to be. Where nothing was lost, a static row that was known still is, nothing went out of the recency list, and each other chain is as it was.
 pub record IsFilledThrough (S : ℕ) (s : Snap) (old new : Memory) : Type 0 where
@@ -38,11 +29,5 @@ pub record IsFilledThrough (S : ℕ) (s : Snap) (old new : Memory) : Type 0 wher
 -- a snapshot may be filled through, its static row is known to it, and the end of its partition is listed
 pub record IsPartlyHeld (m : Memory) (s : Snap) : Type 0 where
   pub statics : KnowsStaticRow m s
-  pub may : MayFill m s.chain s.pin
-  pub listed : Contains m.recency (member_at s.chain 0 (Some end_position))
-
--- to a snapshot that may be filled all of its partition is known, and the end of the partition is listed
-pub record IsHeldWhole (m : Memory) (s : Snap) : Type 0 where
-  pub known : IsSnapKnown m s
   pub may : MayFill m s.chain s.pin
   pub listed : Contains m.recency (member_at s.chain 0 (Some end_position))

@@ -1,11 +1,6 @@
 -- What is said of a snapshot that is read, and then taken back.
 --     without_snap    the memory without a snapshot
---     IsHeadSaid      a head is that of what writes say
 --     IsLookedUp      what is left where a snapshot was taken and taken back
-use Rattle.std.specs.Prelude.{◌≡◌, List}
-use Rattle.rc_mutation.specs.declared.fragments.Head.{Head}
-use Rattle.rc_mutation.specs.declared.mutations.Mutation.{Mutation}
-use Rattle.rc_mutation.specs.Source.{source_at_head, source_at_static}
 use Rattle.rc_memory.specs.Memory.{Memory, on_chain, with_chains, without_snapshot}
 use Rattle.rc_chain.specs.declared.chains.Snap.{Snap}
 use Rattle.rc_snapshots.specs.Seeing.{AreSameSnapshots}
@@ -14,11 +9,6 @@ use Rattle.rc_lookup.specs.Looked.{IsStill}
 -- the memory without a snapshot
 abbrev pub without_snap : Snap → Memory → Memory
 without_snap s m = with_chains (on_chain s.chain (without_snapshot s.pin) m.chains) m
-
--- a head is that of what writes say
-pub record IsHeadSaid (writes : List Mutation) (h : Head) : Type 0 where
-  pub pt : source_at_head writes ≡ h.pt
-  pub statics : source_at_static writes ≡ h.statics
 
 -- no object moved, came or went, no chain of a memtable changed, and nothing was counted; the snapshots are those that were there, and see what they saw
 pub record IsLookedUp (old new : Memory) : Type 0 where

@@ -1,17 +1,24 @@
 -- What calls keep of what an open reader reads.
-use Rattle.std.specs.Prelude.{◌≡◌, ℕ, List, Option, Some, None, IfSome}
+use Rattle.std.specs.Prelude.{◌≡◌, ◌<◌, ◌⊎◌, ℕ, List, Option, Some, None, IfSome}
 use Rattle.rc_position.specs.declared.positions.Pos.{Pos}
+use Rattle.rc_position.specs.Position.{IsBefore}
+use Rattle.rc_core.specs.Version.{end_position}
 use Rattle.rc_stream.specs.Did.{OfNext}
 use Rattle.rc_stream.specs.Places.{Reaches}
+use Rattle.rc_stream.specs.Snapshot.{most_counted}
+use Rattle.rc_cached.specs.Filling.{MayFill}
+use Rattle.rc_filler.specs.Fillers.{losses}
 use Rattle.rc_cursor.specs.Snapshots.{IsHeadSeen, Knows}
 use Rattle.rc_cacheread.specs.Did.{IsKnownFor}
+use Rattle.rc_cacheread.specs.Passing.{IsKnownOver}
+use Rattle.rc_cacheread.specs.Sharing.{IsStaticRowKnown}
 use Rattle.rc_cacheread.specs.Spots.{stand}
 use Rattle.rc_mutation.specs.declared.mutations.Mutation.{Mutation}
 use Rattle.rc_memory.specs.Memory.{Memory}
 use Rattle.rc_cached.specs.declared.readings.Readings.{Readings}
 use Rattle.rc_chain.specs.declared.chains.Snap.{Snap}
 use Rattle.rc_cached.specs.Leaving.{LeavesChains}
-use Rattle.rc_cached.specs.Streams.{OfCache, SayBelow}
+use Rattle.rc_cached.specs.Streams.{IsOfCached, OfCache, SayBelow, read_below}
 use Rattle.rc_paging.specs.Pages.{StandFor}
 use Rattle.rc_paging.specs.declared.layers.HeldSnaps.{HeldSnaps}
 use Rattle.rc_paging.specs.calls.Layers.{AreLayersOf, IsCacheLayerOf, OfLayers, cached_in}
@@ -54,10 +61,44 @@ pub record IsStreamAhead (x y : Pos) (snap : Option Snap) (m : Memory) (r : OfCa
   pub on : Reaches x (stand r.spot)
   pub known : IsKnownFor (OfNext y) (Knows m r.known.snap) (IsHeadSeen m r.known.snap) (stand r.spot) r.to
 
--- so of what an open reader reads, of which no seek is due but one to x
-pub record AreAhead (x y : Pos) (snap : Option Snap) (s : Three) : Type 0 where
+-- of what an open reader reads no seek is due but one to x, and this holds of its cached stream, where there is one
+pub record AreFrom (x : Pos) (P : Memory → Readings → OfCache → Type 0) (s : Three) : Type 0 where
   pub due : IfSome s.0.due (λ z. z ≡ x)
-  pub cached : IfSome (cached_in s.0) (IsStreamAhead x y snap s.1)
+  pub cached : IfSome (cached_in s.0) (P s.1 s.2)
+
+-- so is what its cached stream passes up to y known to this snapshot
+abbrev pub AreAhead : (x y : Pos) → Option Snap → Three → Type 0
+AreAhead x y snap s = AreFrom x (λ m w r. IsStreamAhead x y snap m r) s
+
+-- nothing is read below a cached stream, and it does not stand before x; what it passed from there on is known to its snapshot, where that may be filled still and what is lost is counted
+pub record IsStreamPassed (x : Pos) (m : Memory) (w : Readings) (r : OfCache) : Type 0 where
+  pub snap : Snap
+  pub of : IsOfCached snap r
+  pub unread : read_below r w ≡ None
+  pub on : Reaches x (stand r.spot)
+  pub each : MayFill m snap.chain snap.pin → losses m < most_counted → IsKnownOver (Knows m snap) x (stand r.spot)
+
+-- and so is the static row
+pub record IsStreamPassedWhole (x : Pos) (m : Memory) (w : Readings) (r : OfCache) : Type 0 where
+  pub passed : IsStreamPassed x m w r
+  pub static_row : MayFill m passed.snap.chain passed.snap.pin → losses m < most_counted → IsStaticRowKnown (IsHeadSeen m passed.snap)
+
+-- a place is behind a position, or where each partition ends
+abbrev pub IsBehindOrEnds : (y place : Pos) → Type 0
+IsBehindOrEnds y place = IsBefore y place ⊎ Reaches end_position place
+
+-- and it stands behind y, or where the partition ends
+pub record IsStreamPassedTo (x y : Pos) (m : Memory) (w : Readings) (r : OfCache) : Type 0 where
+  pub whole : IsStreamPassedWhole x m w r
+  pub behind : IsBehindOrEnds y (stand r.spot)
+
+-- so of what an open reader reads
+abbrev pub ArePassed : Pos → Three → Type 0
+ArePassed x s = AreFrom x (IsStreamPassed x) s
+
+-- so is the static row too
+abbrev pub ArePassedWhole : Pos → Three → Type 0
+ArePassedWhole x s = AreFrom x (IsStreamPassedWhole x) s
 
 -- chains and readings are as they were
 pub record IsQuiet (s t : Three) : Type 0 where

@@ -1,6 +1,7 @@
 -- What the row cache tells of a partition, and what asking it leaves of everything else.
 --     IsTabled       a stream is that of what the tables say of a key
 --     IsEntrySnapshot, IsSourceIn    what tells what the tables say
+--     IsSourceKnown  it is a snapshot to which the static row is known
 --     source_taken, snap_taken    the snapshot that was taken
 --     IsCacheUsed    beside the row cache all is as it was
 --     IsCacheLeft    the row cache has what it had
@@ -19,7 +20,9 @@ use Rattle.rc_stream.specs.declared.streams.StreamErr.TheVariants as stream_err
 use Rattle.rc_lookup.specs.Steps.{AreSameKeys}
 use Rattle.rc_chain.specs.declared.chains.Snap.{Snap}
 use Rattle.rc_cached.specs.Stands.{HasCacheSnapshot}
+use Rattle.rc_memory.specs.Memory.{Memory}
 use Rattle.rc_lookup.specs.Found.{entry_number}
+use Rattle.rc_lookup.specs.Known.{KnowsStaticRow}
 use Rattle.rc_machine.specs.State.{State}
 use Rattle.rc_machine.specs.Steps.{IsSaid}
 use Rattle.rc_lookup.specs.Fillers.{losses}
@@ -51,6 +54,11 @@ pub record IsEntrySnapshot (k : Shard) (key : List ℕ) (s : Snap) : Type 0 wher
 abbrev pub IsSourceIn : Shard → State → List ℕ → Source → Type 0
 IsSourceIn k m key (Cached s) = IsEntrySnapshot k key s
 IsSourceIn k m key (Read list) = IsTabled m key list
+
+-- it is a snapshot to which the static row is known
+abbrev pub IsSourceKnown : Memory → Source → Type 0
+IsSourceKnown m (Cached s) = KnowsStaticRow m s
+IsSourceKnown m (Read list) = ⊥
 
 -- the snapshot that it is, if it is one
 abbrev pub source_snap : Source → Option Snap

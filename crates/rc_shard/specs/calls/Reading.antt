@@ -2,19 +2,42 @@
 --     with_reader    the state with another reader in place of the one of an id
 --     IsPaged        a reader gave a page
 --     IsGoneOn     a reader goes on past the row cache
+--     IsPassedBy     what a page passed is known
+--     IsPastReader   a reader reads past the row cache
 --     IsBesideChains, IsPagedBeside, IsGonePastAt    what is left of everything else
-use Rattle.std.specs.Prelude.{◌≡◌, ◌==◌, ℕ, Bool, List, Option, Some, None, get_or, length, nat_lt, set, take}
+--     IsReadOfFirst  what was read of the tables of a reader's opening
+--     IsPutInPlace, IsRefilled, IsPutPast    what was read is in the row cache
+--     IsSparedPast   a partition that a reader's going past leaves
+--     IsTouchedPast  the rows that were given past the row cache are the most recent ones
+use Rattle.std.specs.Prelude.{◌≡◌, ◌==◌, ◌⊎◌, ◌++◌, ℕ, ⊤, Bool, List, Option, Some, None, IfSome, get_or, length, nat_lt, set, take}
 use Rattle.std.specs.Map.{set_value}
 use Rattle.rc_outside.specs.Files.{Files}
 use Rattle.rc_mutation.specs.declared.mutations.Mutation.{Mutation}
 use Rattle.rc_query.specs.declared.lines.OutLine.{OutLine}
 use Rattle.rc_machine.specs.State.{Reader, State, reader_of, rest_of}
 use Rattle.rc_machine.specs.Steps.{IsResaid, reader_past}
+use Rattle.rc_mutation.specs.Source.{IsJoinOf, IsMutation}
+use Rattle.rc_writes.specs.Allowed.{ChangeFits}
+use Rattle.rc_tfile.specs.declared.info.TableInfo.{TableInfo}
+use Rattle.rc_folder.specs.Tabled.{IsSaidByFirst, Tabled}
+use Rattle.rc_machine.specs.Standing.{IsOver}
+use Rattle.rc_lines.specs.declared.commands.Reply.{Reply}
+use Rattle.rc_lines.specs.declared.commands.Reply.TheVariants.{Given}
+use Rattle.rc_memory.specs.Memory.{Memory}
+use Rattle.rc_chain.specs.declared.chains.Snap.{Snap}
+use Rattle.rc_stream.specs.Snapshot.{NoneLost}
+use Rattle.rc_lookup.specs.Fillers.{losses}
+use Rattle.rc_lookup.specs.Found.{entry_number}
+use Rattle.rc_lookup.specs.Touched.{AreTouched, IsEntryOfGiven}
 use Rattle.rc_lookup.specs.Memtables.{in_chains}
-use Rattle.rc_paging.specs.Forms.{held_by}
+use Rattle.rc_paging.specs.declared.forms.PartReader.{PartReader}
+use Rattle.rc_paging.specs.Forms.{ByForm, held_by}
+use Rattle.rc_paging.specs.Pages.{IsPagePassed}
 use Rattle.rc_shard.specs.declared.readers.PartitionReader.{PartitionReader}
 use Rattle.rc_shard.specs.declared.shard.Shard.{Shard}
 use Rattle.rc_shard.specs.Readers.{cached_of, written_snaps_of}
+use Rattle.rc_shard.specs.Filling.{HoldsCached}
+use Rattle.rc_shard.specs.Knowing.{IsCachedWhole, IsPartitionListed, IsPastNow}
 use Rattle.rc_shard.specs.Releasing.{IsSnapGivenBack}
 
 -- the state with another reader in place of the one of an id
@@ -37,6 +60,10 @@ pub record IsGoneOn (Stood : Option Files → Shard → State → Type 0) (files
   pub resaid : IsResaid m reader said
   pub stands : Stood files k' (with_reader id (record reader { said = said }) m)
 
+-- what a page of so many of the lines that are left to the machine's reader passed is known, where a reader holds a snapshot of the row cache that may be filled
+abbrev pub IsPassedBy : Shard → ℕ → PartitionReader → Reader → Type 0
+IsPassedBy k count o r = ByForm (λ c. IsPagePassed k.unstored.chains c count (rest_of r)) (λ _. ⊤) o.reader
+
 -- beside the chains all is as it was
 pub record IsBesideChains (old new : Shard) : Type 0 where
   pub unstored : new.unstored ≡ in_chains new.unstored.chains old.unstored
@@ -47,11 +74,17 @@ pub record IsBesideChains (old new : Shard) : Type 0 where
   pub segments : new.segments ≡ old.segments
   pub asked : new.asked ≡ old.asked
 
--- all is as it was but for the reader at a place, which holds the same
+-- a reader reads past the row cache
+abbrev pub IsPastReader : PartReader → Type 0
+IsPastReader o = ByForm (λ _. ⊥) (λ _. ⊤) o
+
+-- all is as it was but for the reader at a place, which holds the same, and is past the row cache where it was
 pub record IsPagedBeside (at : ℕ) (old new : Shard) : Type 0 where
   pub reader : ℕ × PartitionReader
   pub readers : new.readers.items ≡ set old.readers.items at reader
   pub kept : (o : ℕ × PartitionReader) → get_or old.readers.items at o ≡ o → (reader.0 ≡ o.0) × (reader.1.key ≡ o.1.key) × (reader.1.tables ≡ o.1.tables) × (held_by reader.1.reader ≡ held_by o.1.reader)
+  pub past : (o : ℕ × PartitionReader) → get_or old.readers.items at o ≡ o → IsPastReader o.1.reader → IsPastReader reader.1.reader
+  pub over : (o : ℕ × PartitionReader) → get_or old.readers.items at o ≡ o → IsPastReader reader.1.reader → IsPastReader o.1.reader
   pub unstored : new.unstored ≡ old.unstored
   pub folder : new.folder ≡ old.folder
   pub cache : new.cache ≡ old.cache
@@ -67,6 +100,7 @@ pub record IsGonePastAt (at : ℕ) (o : ℕ × PartitionReader) (old new : Shard
   pub key : reader.1.key ≡ o.1.key
   pub tables : reader.1.tables ≡ o.1.tables
   pub snaps : held_by reader.1.reader ≡ record { cached = None; written = written_snaps_of o.1 }
+  pub gone : IsPastReader reader.1.reader
   pub past : IsSnapGivenBack (cached_of o.1) old.unstored.chains new.unstored.chains
   pub unstored : new.unstored ≡ in_chains new.unstored.chains old.unstored
   pub folder : new.folder ≡ old.folder
@@ -74,3 +108,33 @@ pub record IsGonePastAt (at : ℕ) (o : ℕ × PartitionReader) (old new : Shard
   pub answered : new.answered ≡ old.answered
   pub segments : new.segments ≡ old.segments
   pub asked : new.asked ≡ old.asked
+
+-- what was read of the tables of a reader's opening, over these files, is a mutation that fits the schema, to which what they say joins
+pub record IsReadOfFirst (files : Option Files) (f : Tabled) (o : PartitionReader) (read : Mutation) : Type 0 where
+  pub said : (m : State) (later : List TableInfo) → IsOver files f.schema f.infos m → f.infos ≡ o.tables ++ later → (said : List Mutation) × IsSaidByFirst m o.tables o.key said × IsJoinOf read said
+  pub mutation : IsMutation read
+  pub fits : ChangeFits f.schema read
+
+-- what was read was put into the row cache in place of the chain of which a reader holds a snapshot, which no entry has any more
+pub record IsPutInPlace (o : PartitionReader) (k k' : Shard) : Type 0 where
+  pub holds : HoldsCached k.cache.entries o
+  pub whole : NoneLost (losses k.unstored.chains) (losses k'.unstored.chains) → IsCachedWhole k' o.key
+  pub apart : (key : List ℕ) → entry_number k'.cache.entries key ≡ Some holds.snap.chain → ⊥
+
+-- so it was; or the reader holds no snapshot of what the row cache has, and nothing changed
+abbrev pub IsRefilled : PartitionReader → Shard → Shard → Type 0
+IsRefilled o k k' = ((HoldsCached k.cache.entries o → ⊥) × (k' ≡ k)) ⊎ IsPutInPlace o k k'
+
+-- something of a partition could be evicted, or a snapshot is of another chain
+abbrev pub IsSparedPast : Option Snap → Shard → List ℕ → Type 0
+IsSparedPast snap k key = IsPartitionListed k key ⊎ IfSome snap (λ s. entry_number k.cache.entries key ≡ Some s.chain → ⊥)
+
+-- once lines were given past it the row cache knows all of a reader's partition, where the reader held a snapshot of what it had of it, and nothing was lost
+abbrev pub IsPutPast : PartitionReader → Reply → Shard → Shard → Type 0
+IsPutPast o (Given lines more) k k' = NoneLost (losses k.unstored.chains) (losses k'.unstored.chains) → HoldsCached k.cache.entries o → IsCachedWhole k' o.key
+IsPutPast o reply k k' = ⊤
+
+-- the reader of an id reads past the row cache now, and the rows that it gave are the most recent ones there
+abbrev pub IsTouchedPast : ℕ → PartitionReader → Reply → Shard → Type 0
+IsTouchedPast id o (Given lines more) k' = IsPastNow id k' × ((read : Memory) × AreTouched (IsEntryOfGiven (entry_number k'.cache.entries o.key) lines) read k'.unstored.chains)
+IsTouchedPast id o reply k' = ⊤

@@ -5,7 +5,7 @@ use Rattle.rc_position.specs.Position.{row_pos}
 use Rattle.rc_memory.specs.Changes.{member_at}
 use Rattle.rc_version.specs.Versions.{IsVersionOf}
 use Rattle.rc_lookup.proofs.Given.{entry-at, touched-none, touched-one, unfound}
-use Rattle.rc_lookup.proofs.Walked.{placed}
+use Rattle.rc_lookup.proofs.Placed.{placed}
 use Rattle.rc_lookup.proofs.keeping.touch_entry.Goals as goal
 
 pub entry_at_key-requires : goal.entry_at_key-requires

@@ -1,5 +1,5 @@
 -- The snapshot that was taken stays, where all is known to it, and is taken back where something is not.
-use Rattle.std.proofs.Common.{inl, inr, ◌≡◌, ℕ, List, [], Option, None, sym, ap, ◌∙◌, subst, arith}
+use Rattle.std.proofs.Common.{inl, inr, ◌≡◌, ℕ, List, [], Option, None, Some, sym, ap, ◌∙◌, subst, arith}
 use Rattle.std.specs.Prelude.{IfNone, IfOk, IfSome, IsSomeAnd, Ok, OnErr}
 use Rattle.rc_schema.specs.SchemaValue.{SchemaValue}
 use Rattle.rc_memory.specs.Memory.{KeptChain, Member, Memory, chain_at, with_dropped}
@@ -9,59 +9,61 @@ use Rattle.rc_row_cache.specs.Calls.{IsTakenOf}
 use Rattle.rc_row_cache.specs.Crowding.{LosesWhereCrowded}
 use Rattle.rc_row_cache.specs.Entries.{AreEntries}
 use Rattle.rc_row_cache.specs.Found.{entry_number}
-use Rattle.rc_row_cache.specs.Saying.{Below, CacheSays, phase_pinned}
+use Rattle.rc_row_cache.specs.Saying.{Below, CacheSays}
 use Rattle.rc_lookup.specs.Held.{IsHeldOf}
-use Rattle.rc_lookup.specs.Known.{IsChainKnown, IsPartitionKnown}
+use Rattle.rc_lookup.specs.Known.{IsStaticRowIn, KnowsStaticRow}
 use Rattle.rc_lookup.specs.Looked.{IsStill, IsUnread}
 use Rattle.rc_lookup.specs.Rest.{LeavesBut, LeavesRest}
-use Rattle.rc_lookup.specs.Touched.{IsMadeRecent}
-use Rattle.rc_lookup.specs.calls.Known.{IsSnapKnown}
+use Rattle.rc_lookup.specs.Touched.{AreRecent, AreTouched, IsHeadOrEnd}
 use Rattle.rc_lookup.specs.calls.Reading.{without_snap}
-use Rattle.rc_lookup.specs.calls.Touched.{IsChainTouched, IsReordered}
+use Rattle.rc_lookup.specs.calls.Touched.{IsReordered}
 use Rattle.rc_lookup.specs.laws.Staying.{still-same}
 use Rattle.rc_lookup.proofs.Holding.{HoldLaws, back-rest, held-of, if-held, if-none, is-held, match-held, on-failed, taken-but, taken-still, taken-there}
-use Rattle.rc_lookup.proofs.Kept.{looked, looked-none, none-there, same-number, same-source, snap-known, still, told-still, unread}
+use Rattle.rc_lookup.proofs.Kept.{chain-known, looked, looked-none, none-there, same-number, snap-known, still, told-still, unread}
 use Rattle.rc_lookup.proofs.Losing.{kept-loses, looked-loses, told-loses}
-use Rattle.rc_lookup.proofs.Reordered.{entries-reordered, none-unread, rest-reordered, same-reordered, still-moved, touched-reordered}
+use Rattle.rc_lookup.proofs.Reordered.{entries-reordered, none-unread, rest-reordered, same-reordered, still-moved}
+use Rattle.rc_lookup.proofs.Given.{touched-reordered}
 use Rattle.rc_lookup.specs.laws.Rest.{but-then, rest-told}
 use Rattle.rc_lookup.proofs.Rest.{KeepsPins}
 use Rattle.rc_lookup.proofs.Staying.{entry-there, still-reordered}
-use Rattle.rc_lookup.proofs.Swept.{chain-held}
+use Rattle.rc_lookup.proofs.Swept.{KnowsStatics, chain-held}
 use Rattle.rc_lookup.proofs.looking.take_known.Goals as goal
 
 pub keep_known-requires : goal.keep_known-requires
 keep_known-requires g c =
-    let s = c.in-Ok-Some.snap in
-    let mid = c.snapshot.new.chains in
     let taken : IsTakenOf c.args.key.now c.snapshot.new.self.entries (with_dropped [] c.args.chains.now) c.snapshot.new.chains c.in-Ok-Some.snap = subst (λ r. IfOk r (λ o. IfSome o (λ (x : Snap). IsTakenOf c.args.key.now c.snapshot.new.self.entries (with_dropped [] c.args.chains.now) c.snapshot.new.chains x))) (c.in-Ok-Some.is ∙ ap Ok c.in-Ok-Some.field-0-is) c.snapshot.ensures.taken in
-    let h = taken.there.0 in
-    let over = c.requires.over in
-    let writes = over.1 s.chain (phase_pinned h) in
-    (omega arith, (writes, c.a_snapshot_stands_for_what_lies_below.ensures.there g.row.S over.0 over.1 mid s.chain s.pin h writes over.2.limits over.2.small (over.2.fits s.chain (phase_pinned h)) (c.snapshot.ensures.says over.0 over.1 over.2.says) (same-source writes)))
+    (omega arith, taken.there.0)
 
 pub returns-in-Ok-Some-clause-known : goal.returns-in-Ok-Some-clause-known
-returns-in-Ok-Some-clause-known g c = λ id entry whole.
+returns-in-Ok-Some-clause-known g c = λ id entry on.
     let s = c.in-Ok-Some.snap in
     let old = c.args.chains.now in
     let mid = c.snapshot.new.chains in
-    let new = c.keep_known.new.chains in
     let taken : IsTakenOf c.args.key.now c.snapshot.new.self.entries (with_dropped [] c.args.chains.now) c.snapshot.new.chains c.in-Ok-Some.snap = subst (λ r. IfOk r (λ o. IfSome o (λ (x : Snap). IsTakenOf c.args.key.now c.snapshot.new.self.entries (with_dropped [] c.args.chains.now) c.snapshot.new.chains x))) (c.in-Ok-Some.is ∙ ap Ok c.in-Ok-Some.field-0-is) c.snapshot.ensures.taken in
     let may : MayFill c.snapshot.new.chains c.in-Ok-Some.snap.chain c.in-Ok-Some.snap.pin = subst (λ r. IfOk r (λ o. IfSome o (λ (x : Snap). (schema : SchemaValue) (below : Below) → CacheSays schema below c.args.chains.now → MayFill c.snapshot.new.chains x.chain x.pin))) (c.in-Ok-Some.is ∙ ap Ok c.in-Ok-Some.field-0-is) c.snapshot.ensures.may c.requires.over.0 c.requires.over.1 c.requires.over.2.says in
     let own : id ≡ s.chain = same-number id s.chain (sym entry ∙ (c.snapshot.ensures.forgotten.left c.args.key.now s.chain taken.entry).0) in
-    is-held (IsSnapKnown mid s) c.keep_known.result c.keep_known.ensures.none (snap-known s (with_dropped [] old) mid taken.taken taken.there.0 may (subst (IsChainKnown old) own whole))
+    is-held (KnowsStaticRow mid s) c.keep_known.result c.keep_known.ensures.none (snap-known s (with_dropped [] old) mid taken.taken taken.there.0 KnowsStatics may (subst (IsStaticRowIn old) own on))
 
-pub returns-in-Ok-Some-clause-whole : goal.returns-in-Ok-Some-clause-whole
-returns-in-Ok-Some-clause-whole g c =
+pub returns-in-Ok-Some-clause-head : goal.returns-in-Ok-Some-clause-head
+returns-in-Ok-Some-clause-head g c =
+    let s = c.in-Ok-Some.snap in
+    let mid = c.snapshot.new.chains in
+    let new = c.keep_known.new.chains in
+    let kept : Snap → Type 0 = λ x. (x ≡ s) × KnowsStaticRow mid s × AreTouched (IsHeadOrEnd s.chain) mid new in
+    if-held kept (KnowsStaticRow new) c.keep_known.result (λ x k. subst (KnowsStaticRow new) (sym k.0) (subst (λ (m : Memory). KnowsStaticRow m s) (sym k.2.same) k.1)) c.keep_known.ensures.kept
+
+pub returns-in-Ok-Some-clause-was : goal.returns-in-Ok-Some-clause-was
+returns-in-Ok-Some-clause-was g c =
     let s = c.in-Ok-Some.snap in
     let old = c.args.chains.now in
     let mid = c.snapshot.new.chains in
     let new = c.keep_known.new.chains in
     let taken : IsTakenOf c.args.key.now c.snapshot.new.self.entries (with_dropped [] c.args.chains.now) c.snapshot.new.chains c.in-Ok-Some.snap = subst (λ r. IfOk r (λ o. IfSome o (λ (x : Snap). IsTakenOf c.args.key.now c.snapshot.new.self.entries (with_dropped [] c.args.chains.now) c.snapshot.new.chains x))) (c.in-Ok-Some.is ∙ ap Ok c.in-Ok-Some.field-0-is) c.snapshot.ensures.taken in
     let may : MayFill c.snapshot.new.chains c.in-Ok-Some.snap.chain c.in-Ok-Some.snap.pin = subst (λ r. IfOk r (λ o. IfSome o (λ (x : Snap). (schema : SchemaValue) (below : Below) → CacheSays schema below c.args.chains.now → MayFill c.snapshot.new.chains x.chain x.pin))) (c.in-Ok-Some.is ∙ ap Ok c.in-Ok-Some.field-0-is) c.snapshot.ensures.may c.requires.over.0 c.requires.over.1 c.requires.over.2.says in
-    let kept : Snap → Type 0 = λ x. (x ≡ s) × IsSnapKnown mid s × IsChainTouched s.chain mid new in
-    let entry : Option ℕ = entry_number c.snapshot.new.self.entries c.args.key.now in
-    if-held kept (λ x. IsSomeAnd entry (IsChainKnown new)) c.keep_known.result
-    (λ x k. subst (λ (o : Option ℕ). IsSomeAnd o (IsChainKnown new)) (sym taken.entry) (subst (λ (m : Memory). IsChainKnown m s.chain) (sym k.2.same) (chain-held s mid taken.there.0 k.1 may))) c.keep_known.ensures.kept
+    let kept : Snap → Type 0 = λ x. (x ≡ s) × KnowsStaticRow mid s × AreTouched (IsHeadOrEnd s.chain) mid new in
+    let was : entry_number c.args.cache.now.entries c.args.key.now ≡ Some s.chain = (c.snapshot.ensures.forgotten.left c.args.key.now s.chain taken.entry).0 in
+    if-held kept (λ x. IsSomeAnd (entry_number c.args.cache.now.entries c.args.key.now) (IsStaticRowIn old)) c.keep_known.result
+    (λ x k. subst (λ (o : Option ℕ). IsSomeAnd o (IsStaticRowIn old)) (sym was) (chain-known s (with_dropped [] old) mid taken.taken taken.there.0 KnowsStatics (chain-held KnowsStatics s mid taken.there.0 k.1 may))) c.keep_known.ensures.kept
 
 pub returns-in-Ok-Some-clause-taken : goal.returns-in-Ok-Some-clause-taken
 returns-in-Ok-Some-clause-taken g c =
@@ -70,10 +72,10 @@ returns-in-Ok-Some-clause-taken g c =
     let mid = c.snapshot.new.chains in
     let new = c.keep_known.new.chains in
     let taken : IsTakenOf c.args.key.now c.snapshot.new.self.entries (with_dropped [] c.args.chains.now) c.snapshot.new.chains c.in-Ok-Some.snap = subst (λ r. IfOk r (λ o. IfSome o (λ (x : Snap). IsTakenOf c.args.key.now c.snapshot.new.self.entries (with_dropped [] c.args.chains.now) c.snapshot.new.chains x))) (c.in-Ok-Some.is ∙ ap Ok c.in-Ok-Some.field-0-is) c.snapshot.ensures.taken in
-    let kept : Snap → Type 0 = λ x. (x ≡ s) × IsSnapKnown mid s × IsChainTouched s.chain mid new in
+    let kept : Snap → Type 0 = λ x. (x ≡ s) × KnowsStaticRow mid s × AreTouched (IsHeadOrEnd s.chain) mid new in
     let es = c.snapshot.new.self.entries in
     if-held kept (IsHeldOf c.args.key.now es old new) c.keep_known.result
-    (λ x k. subst (IsHeldOf c.args.key.now es old new) (sym k.0) (held-of s old mid taken.taken taken.there.0 c.args.key.now es new taken.entry taken.fresh (touched-reordered s.chain mid new k.2))) c.keep_known.ensures.kept
+    (λ x k. subst (IsHeldOf c.args.key.now es old new) (sym k.0) (held-of s old mid taken.taken taken.there.0 c.args.key.now es new taken.entry taken.fresh (touched-reordered (IsHeadOrEnd s.chain) mid new k.2))) c.keep_known.ensures.kept
 
 pub returns-in-Ok-Some-clause-left : goal.returns-in-Ok-Some-clause-left
 returns-in-Ok-Some-clause-left g c =
@@ -120,10 +122,10 @@ returns-in-Ok-Some-clause-hit g c =
     let mid = c.snapshot.new.chains in
     let new = c.keep_known.new.chains in
     let taken : IsTakenOf c.args.key.now c.snapshot.new.self.entries (with_dropped [] c.args.chains.now) c.snapshot.new.chains c.in-Ok-Some.snap = subst (λ r. IfOk r (λ o. IfSome o (λ (x : Snap). IsTakenOf c.args.key.now c.snapshot.new.self.entries (with_dropped [] c.args.chains.now) c.snapshot.new.chains x))) (c.in-Ok-Some.is ∙ ap Ok c.in-Ok-Some.field-0-is) c.snapshot.ensures.taken in
-    let kept : Snap → Type 0 = λ x. (x ≡ s) × IsSnapKnown mid s × IsChainTouched s.chain mid new in
+    let kept : Snap → Type 0 = λ x. (x ≡ s) × KnowsStaticRow mid s × AreTouched (IsHeadOrEnd s.chain) mid new in
     let list : mid.recency ≡ old.recency = ap (λ (m : Memory). m.recency) taken.taken.now in
-    if-held kept (λ x. IsSomeAnd (entry_number c.snapshot.new.self.entries c.args.key.now) (λ id. IsMadeRecent id old.recency new.recency)) c.keep_known.result
-    (λ x k. subst (λ (o : Option ℕ). IsSomeAnd o (λ id. IsMadeRecent id old.recency new.recency)) (sym taken.entry) (subst (λ (l : List Member). IsMadeRecent s.chain l new.recency) list k.2.recency)) c.keep_known.ensures.kept
+    if-held kept (λ x. IsSomeAnd (entry_number c.snapshot.new.self.entries c.args.key.now) (λ id. AreRecent (IsHeadOrEnd id) old.recency new.recency)) c.keep_known.result
+    (λ x k. subst (λ (o : Option ℕ). IsSomeAnd o (λ id. AreRecent (IsHeadOrEnd id) old.recency new.recency)) (sym taken.entry) (subst (λ (l : List Member). AreRecent (IsHeadOrEnd s.chain) l new.recency) list k.2.recency)) c.keep_known.ensures.kept
 
 pub returns-in-Ok-Some-clause-missed : goal.returns-in-Ok-Some-clause-missed
 returns-in-Ok-Some-clause-missed g c =
@@ -152,7 +154,7 @@ returns-in-Ok-Some-clause-rest g c =
     let mid = c.snapshot.new.chains in
     let new = c.keep_known.new.chains in
     let taken : IsTakenOf c.args.key.now c.snapshot.new.self.entries (with_dropped [] c.args.chains.now) c.snapshot.new.chains c.in-Ok-Some.snap = subst (λ r. IfOk r (λ o. IfSome o (λ (x : Snap). IsTakenOf c.args.key.now c.snapshot.new.self.entries (with_dropped [] c.args.chains.now) c.snapshot.new.chains x))) (c.in-Ok-Some.is ∙ ap Ok c.in-Ok-Some.field-0-is) c.snapshot.ensures.taken in
-    let kept : Snap → Type 0 = λ x. (x ≡ s) × IsSnapKnown mid s × IsChainTouched s.chain mid new in
+    let kept : Snap → Type 0 = λ x. (x ≡ s) × KnowsStaticRow mid s × AreTouched (IsHeadOrEnd s.chain) mid new in
     let laws : HoldLaws = record {
       bytes_taken = c.what_calls_leave_of_memtables.ensures.taken;
       bytes_back = c.what_calls_leave_of_memtables.ensures.back;
@@ -165,7 +167,7 @@ returns-in-Ok-Some-clause-rest g c =
     } in
     let pins : KeepsPins old mid = λ id pin h. (c.snapshot.ensures.pins (λ _. []) id pin h).0 in
     match-held kept (λ x. LeavesBut x old new) (new ≡ without_snap s mid) (LeavesRest old new) c.keep_known.result
-    (λ x k. subst (λ (y : Snap). LeavesBut y old new) (sym k.0) (but-then s old mid new (taken-but s old mid taken.taken taken.there.0 laws pins c.snapshot.ensures.seen) (rest-reordered mid new (touched-reordered s.chain mid new k.2))))
+    (λ x k. subst (λ (y : Snap). LeavesBut y old new) (sym k.0) (but-then s old mid new (taken-but s old mid taken.taken taken.there.0 laws pins c.snapshot.ensures.seen) (rest-reordered mid new (touched-reordered (IsHeadOrEnd s.chain) mid new k.2))))
     (λ back. subst (LeavesRest old) (sym back) (back-rest s old mid taken.taken taken.there.0 laws pins taken.fresh)) c.keep_known.ensures.kept c.keep_known.ensures.missed
 
 pub returns-in-Ok-Some-clause-rest_err : goal.returns-in-Ok-Some-clause-rest_err
@@ -219,7 +221,7 @@ pub returns-in-Ok-None-clause-known : goal.returns-in-Ok-None-clause-known
 returns-in-Ok-None-clause-known g c = λ id entry whole.
     let old = c.args.chains.now in
     let absent = subst (λ r. IfOk r (λ o. IfNone o ((entry_number c.snapshot.new.self.entries c.args.key.now ≡ None) × (c.snapshot.new.chains ≡ with_dropped [] c.args.chains.now)))) (c.in-Ok-None.is ∙ ap Ok c.in-Ok-None.field-0-is) c.snapshot.ensures.absent in
-    let stays = c.snapshot.ensures.forgotten.stays c.args.key.now id entry (λ told. subst (λ (o : Option KeptChain). IsSomeAnd o (λ q. IsPartitionKnown q.chain.kind q.chain.versions)) (c.known.ensures.told id told) whole) in
+    let stays = c.snapshot.ensures.forgotten.stays c.args.key.now id entry (λ told. subst (λ (o : Option KeptChain). IsSomeAnd o (λ q. KnowsStatics q.chain.kind q.chain.versions)) (c.known.ensures.told id told) whole) in
     absurd (none-there id (sym absent.0 ∙ stays))
 
 pub returns-in-Ok-None-clause-left : goal.returns-in-Ok-None-clause-left

@@ -18,9 +18,10 @@ use Rattle.rc_row_cache.specs.Crowds.{loses-before}
 use Rattle.rc_row_cache.specs.Fillers.{losses}
 use Rattle.rc_row_cache.specs.Calls.{IsEnterRefused, IsEntered, IsKeptOut, below_entry}
 use Rattle.rc_row_cache.specs.Saying.{CacheSays, phase_pinned}
-use Rattle.rc_lookup.specs.Held.{IsHeldOf}
+use Rattle.rc_lookup.specs.Known.{KnowsStaticRow}
+use Rattle.rc_lookup.specs.Held.{IsHeldOf, IsHeldWhole}
 use Rattle.rc_lookup.specs.Rest.{LeavesBut, LeavesRest}
-use Rattle.rc_lookup.specs.calls.Entering.{IsFilledThrough, IsHeldWhole, IsPartlyHeld, KnowsStaticRow}
+use Rattle.rc_lookup.specs.calls.Entering.{IsFilledThrough, IsPartlyHeld}
 use Rattle.rc_lookup.proofs.Entered.{RoomLaws, entered-apart, entered-but, entered-fresh, entered-listed, entered-statics, kept-out-lost, kept-out-rest, refused-rest, rest-made}
 use Rattle.rc_lookup.proofs.Fills.{between}
 use Rattle.rc_lookup.proofs.Holding.{failed-done, if-held, match-held, never-none, on-failed}

@@ -6,12 +6,11 @@ use Rattle.rc_stream.specs.Snapshot.{NoneLost}
 use Rattle.rc_row_cache.specs.Crowds.{loses-after}
 use Rattle.rc_row_cache.specs.Found.{entry_number}
 use Rattle.rc_row_cache.specs.Fillers.{losses}
-use Rattle.rc_lookup.specs.Held.{IsHeldOf}
+use Rattle.rc_lookup.specs.Held.{IsHeldOf, IsHeldWhole}
 use Rattle.rc_lookup.specs.Rest.{LeavesBut, LeavesRest}
 use Rattle.rc_lookup.specs.Staying.{IsEntryStill}
-use Rattle.rc_lookup.specs.calls.Entering.{IsHeldWhole}
 use Rattle.rc_lookup.proofs.Fills.{between, on-also}
-use Rattle.rc_lookup.proofs.Holding.{held-is-known, if-held, match-also, on-failed, rest-lost}
+use Rattle.rc_lookup.proofs.Holding.{held-is-known, if-held, match-also, on-failed, rest-lost, some-of-match}
 use Rattle.rc_lookup.specs.laws.Rest.{but-after, rest-then}
 use Rattle.rc_lookup.specs.laws.Staying.{entry-then}
 use Rattle.rc_lookup.proofs.populating.take_populated.Goals as goal
@@ -82,6 +81,20 @@ returns-clause-known g c =
     let taken : IfOk c.enter_read.result (λ o. IfSome o (IsHeldOf key es old new)) = if-held (IsHeldOf key es mid new) (IsHeldOf key es old new) c.enter_read.result
     (λ x h. record { entry = h.entry; there = h.there; fresh = λ on. h.fresh (c.forget_entry.ensures.rest.seen.there x on) }) c.enter_read.ensures.taken in
     held-is-known key es old new (NoneLost (losses old) (losses new)) c.enter_read.result taken all
+
+pub returns-clause-whole : goal.returns-clause-whole
+returns-clause-whole g c =
+    let old = c.args.chains.now in
+    let mid = c.forget_entry.new.chains in
+    let new = c.enter_read.new.chains in
+    let before = c.forget_entry.ensures.rest.counts in
+    let since : losses mid ≤ losses new = rest-lost mid new c.enter_read.result c.enter_read.ensures.rest c.enter_read.ensures.rest_err in
+    let less : losses old ≤ losses mid = omega (arith, before.evicted, before.skipped) in
+    let unlost : NoneLost (losses old) (losses new) → NoneLost (losses mid) (losses new) = λ none. (between (losses old) (losses mid) (losses new) less since none).1 in
+    let all : IfOk c.enter_read.result (λ o. MatchOption o (NoneLost (losses old) (losses new) → ⊥) (λ x. NoneLost (losses old) (losses new) → IsHeldWhole new x)) =
+    match-also (NoneLost (losses mid) (losses new) → ⊥) (NoneLost (losses old) (losses new) → ⊥) (λ x. NoneLost (losses mid) (losses new) → IsHeldWhole new x) (λ x. NoneLost (losses old) (losses new) → IsHeldWhole new x) c.enter_read.result
+    (λ f none. f (unlost none)) (λ x f none. f (unlost none)) c.enter_read.ensures.whole in
+    some-of-match (NoneLost (losses old) (losses new) → ⊥) (λ x. NoneLost (losses old) (losses new) → IsHeldWhole new x) c.enter_read.result all
 
 pub returns-clause-rest : goal.returns-clause-rest
 returns-clause-rest g c =

@@ -1,11 +1,12 @@
 -- The lines that are left behind those that were passed; and what both calls keep.
 use Rattle.std.proofs.Common.{arith, inl, sym, ap, subst, ◌∙◌, ◌+◌, ◌-◌, drop}
+use Rattle.std.specs.Prelude.{OnOk}
 use Rattle.rc_stream.specs.Did.{has_answer}
 use Rattle.rc_stream.specs.laws.Ordered.{passes-itself}
 use Rattle.rc_reader.specs.Left.{left_after}
-use Rattle.rc_paging.specs.calls.Keeping.{KeptLayers, Three}
-use Rattle.rc_paging.specs.calls.Keeping.{IsQuiet}
+use Rattle.rc_paging.specs.calls.Keeping.{AreAhead, ArePassedWhole, IsQuiet, KeptLayers, Three}
 use Rattle.rc_paging.proofs.Called.{CallLaws, called, kept_then}
+use Rattle.rc_paging.proofs.Passing.{reads_passed}
 use Rattle.rc_paging.proofs.Quiet.{fewer, quiet_then, reads_quiet}
 use Rattle.rc_paging.proofs.paging.behind_passed.Goals as goal
 
@@ -59,7 +60,7 @@ returns-in-Ok-clause-quiet g c = λ x y snap far ahead.
     let one = reads_quiet g.row.S laws x y snap (has_answer c.read.result) s t (c.read.ensures.did y first) ahead in
     let there = fewer _ c.read.new.self.work (c.args.passed + c.args.count - c.args.passed) c.args.count y (omega arith) (c.in-Ok.ensures.goes (c.args.passed + c.args.count) y (omega arith) far) in
     let two = c.with_behind-gave.ensures.quiet x y snap there (one.1 (ap has_answer c.in-Ok.is)) in
-    subst (λ z. IsQuiet s (z, c.with_behind-gave.new.chains, c.with_behind-gave.new.readings)) (sym c.into_stream.ensures) (quiet_then s t u one.0 two)
+    subst (λ z. IsQuiet s (z, c.with_behind-gave.new.chains, c.with_behind-gave.new.readings) × OnOk c.with_behind-gave.result (AreAhead x y snap (z, c.with_behind-gave.new.chains, c.with_behind-gave.new.readings))) (sym c.into_stream.ensures) (quiet_then s t u one.0 two.0, two.1)
 
 pub returns-in-Err-clause-quiet : goal.returns-in-Err-clause-quiet
 returns-in-Err-clause-quiet g c = λ x y snap far ahead.
@@ -68,4 +69,13 @@ returns-in-Err-clause-quiet g c = λ x y snap far ahead.
     let t : Three = (c.read.new.self.stream, c.read.new.home, c.read.new.store) in
     let first = fewer _ c.args.reader.work (c.args.passed + c.args.count) c.args.passed y (omega arith) far in
     let one = reads_quiet g.row.S laws x y snap (has_answer c.read.result) s t (c.read.ensures.did y first) ahead in
-    subst (λ z. IsQuiet s (z, c.read.new.home, c.read.new.store)) (sym c.into_stream-in-Err.ensures) one.0
+    (subst (λ z. IsQuiet s (z, c.read.new.home, c.read.new.store)) (sym c.into_stream-in-Err.ensures) one.0, tt)
+
+pub returns-in-Ok-clause-passed : goal.returns-in-Ok-clause-passed
+returns-in-Ok-clause-passed g c = λ x passed.
+    let laws : CallLaws g.row.S = record { leaves = c.a_cached_stream_leaves_what_others_see.ensures.did; handed = c.a_cached_stream_misses_only_what_is_not_known.ensures.handed; unread = c.a_cached_stream_misses_only_what_is_not_known.ensures.unread; known = c.a_cached_stream_misses_only_what_is_not_known.ensures.known } in
+    let y = c.args.reader.work.to in
+    let s : Three = (c.args.reader.stream, c.args.chains.now, c.args.readings.now) in
+    let t : Three = (c.read.new.self.stream, c.read.new.home, c.read.new.store) in
+    let one = reads_passed g.row.S laws x y (has_answer c.read.result) s t (c.read.ensures.did y (inl (passes-itself y))) passed (ap has_answer c.in-Ok.is) in
+    subst (λ z. OnOk c.with_behind-gave.result (ArePassedWhole x (z, c.with_behind-gave.new.chains, c.with_behind-gave.new.readings))) (sym c.into_stream.ensures) (c.with_behind-gave.ensures.passed x one)

@@ -1,12 +1,14 @@
 -- The lines are those of the stream for which the layers stand; what they pass is known up to where the page ends.
-use Rattle.std.proofs.Common.{◌≡◌, ◌++◌, ◌+◌, refl, sym, subst, ◌∙◌, take, drop, length}
+use Rattle.std.proofs.Common.{◌≡◌, ◌++◌, ◌+◌, refl, sym, ap, subst, ◌∙◌, take, drop, length}
 use Rattle.std.proofs.lemmas.List.Elements.{All-append}
 use Rattle.std.specs.Prelude.{IfOk, IfSome, nat_lt}
 use Rattle.rc_memory.specs.Memory.{Memory}
 use Rattle.rc_writes.specs.Allowed.{ChangeFits}
 use Rattle.rc_query.specs.Answer.{answer}
+use Rattle.rc_cached.specs.declared.readings.Readings.{Readings}
 use Rattle.rc_paging.specs.Pages.{IsStretchKnown, page_end}
 use Rattle.rc_paging.proofs.Found.{drop_both, found}
+use Rattle.rc_paging.proofs.Passing.{begun_passed}
 use Rattle.rc_paging.proofs.Quiet.{begun, begun_static}
 use Rattle.rc_paging.proofs.Sought.{of_ok}
 use Rattle.rc_paging.proofs.paging.paged.Goals as goal
@@ -39,4 +41,10 @@ returns-in-Ok-clause-quiet g c = λ schema below writes later tables fits more s
     let quiet = c.page.ensures.quiet y c.args.held.cached end
     (begun g.row.S slice.from y c.args.held.cached c.layers_from-layers.new.chains c.layers_from-layers.new.readings c.layers_from-layers.result.0 begins.layers.cached (of_ok _ c.layers_from-layers.result.1 c.in-Ok.field-0 c.in-Ok.is c.layers_from-layers.ensures.placed) there)
     (begun_static g.row.S slice.from y c.args.held.cached c.layers_from-layers.new.chains c.layers_from-layers.result.0 begins.layers.cached there) in
-    quiet.store ∙ c.layers_from-layers.ensures.store
+    (quiet.0.store ∙ c.layers_from-layers.ensures.store, quiet.1)
+
+pub returns-in-Ok-clause-passed : goal.returns-in-Ok-clause-passed
+returns-in-Ok-clause-passed g c = λ none.
+    let begins = c.layers_from-layers.ensures.begun in
+    let unread = begins.unread (ap (λ (w : Readings). w.list) c.layers_from-layers.ensures.store ∙ none) in
+    c.page.ensures.passed (begun_passed c.args.slice.now.from c.layers_from-layers.new.chains c.layers_from-layers.new.readings c.args.held.cached c.layers_from-layers.result.0 begins.layers.cached (of_ok _ c.layers_from-layers.result.1 c.in-Ok.field-0 c.in-Ok.is c.layers_from-layers.ensures.placed) unread)

@@ -3,7 +3,7 @@ use Rattle.std.proofs.Common.{◌≡◌, Option, Some, IsSome, refl, sym, subst,
 use Rattle.rc_memory.specs.Memory.{HasChain, KeptChain, Memory, chain_at}
 use Rattle.rc_chain.specs.Lives.{IsChainDropped, IsIdle}
 use Rattle.rc_lookup.specs.Readers.{taken_back}
-use Rattle.rc_shard.proofs.Released.{IsSweptThen, ReleaseLaws, back-there, has-pin, released, swept-then}
+use Rattle.rc_shard.proofs.Released.{IsSweptThen, ReleaseLaws, back-there, has-pin, released, swept-loses, swept-then}
 use Rattle.rc_shard.proofs.releasing.release_cached.Goals as goal
 
 pub release-requires : goal.release-requires
@@ -15,8 +15,8 @@ sweep-requires c =
     let old = c.args.chains.now in
     (omega arith, subst (λ (m : Memory). HasChain m s.chain) (sym c.release.ensures) (subst (λ (o : Option KeptChain). IsSome o) (sym (back-there s old old c.requires)) refl))
 
-pub returns : goal.returns
-returns c =
+pub returns-clause-released : goal.returns-clause-released
+returns-clause-released c =
     let s = c.args.snap in
     let old = c.args.chains.now in
     let new = c.sweep.new.self in
@@ -38,3 +38,15 @@ returns c =
       swept = c.chains_of_the_cache_stay_in_use.ensures.swept;
     } in
     released s old new h swept laws
+
+pub returns-clause-loses : goal.returns-clause-loses
+returns-clause-loses c =
+    let s = c.args.snap in
+    let old = c.args.chains.now in
+    let new = c.sweep.new.self in
+    let h = c.requires in
+    let back : c.release.new.self ≡ taken_back s old = c.release.ensures in
+    let swept : IsSweptThen s old new h = swept-then s old new h
+    (subst (λ (y : Memory). (k : KeptChain) → chain_at y s.chain ≡ Some k → IsIdle y s.chain k.chain → IsChainDropped s.chain y.recency y new) back c.sweep.ensures.dropped)
+    (subst (λ (y : Memory). (k : KeptChain) → chain_at y s.chain ≡ Some k → (IsIdle y s.chain k.chain → ⊥) → new ≡ y) back c.sweep.ensures.kept) in
+    swept-loses s old new h c.a_chain_that_is_dropped_had_its_ends_alone.ensures c.release.new.self back swept c.known.ensures.rule c.known.ensures.versions c.known.ensures.live c.known-2.ensures.live

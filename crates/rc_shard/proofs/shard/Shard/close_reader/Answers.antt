@@ -1,5 +1,5 @@
 -- The reader's place is that of its id; its snapshots are taken back.
-use Rattle.std.proofs.Common.{◌≡◌, ◌==◌, ℕ, List, Some, None, position, refl, sym, subst}
+use Rattle.std.proofs.Common.{inl, ◌≡◌, ◌==◌, ℕ, List, Some, None, position, refl, sym, subst}
 use Rattle.rc_paging.specs.declared.layers.HeldSnaps.{HeldSnaps}
 use Rattle.rc_shard.specs.declared.readers.PartitionReader.{PartitionReader}
 use Rattle.rc_shard.specs.declared.shard.Shard.{Shard}
@@ -58,4 +58,4 @@ returns-in-Some-clause-stays c = λ none key listed.
     let s = c.requires.2 in
     let b = c.release_held.ensures in
     let rest = past-rest c.held_of.result.cached k.unstored.chains b.mid b.past in
-    back-known c.held_of.result.cached k new b.mid key s.cached.are c.known.ensures.told refl b.past b.cache.left (lost-past k.unstored.chains b.mid c.release_held.new.unstored.chains rest.counts none) listed
+    back-known c.held_of.result.cached k new b.mid key s.cached.are c.known.ensures.told refl b.past b.cache.left (lost-past k.unstored.chains b.mid c.release_held.new.unstored.chains rest.counts none) (inl listed)

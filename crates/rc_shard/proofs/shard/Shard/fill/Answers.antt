@@ -5,13 +5,16 @@ use Rattle.rc_stream.specs.Stream.{stream_of}
 use Rattle.rc_mutation.specs.Fragments.{fragments}
 use Rattle.rc_cached.specs.Stands.{HasCacheSnapshot}
 use Rattle.rc_lookup.specs.Found.{entry_number}
-use Rattle.rc_lookup.specs.Held.{IsHeldOf}
+use Rattle.rc_lookup.specs.Fillers.{losses}
+use Rattle.rc_lookup.specs.Held.{IsHeldOf, IsHeldWhole}
 use Rattle.rc_lookup.specs.Memtables.{in_chains}
 use Rattle.rc_lookup.specs.Rest.{LeavesBut, LeavesRest}
 use Rattle.rc_shard.specs.declared.shard.Shard.{Shard}
+use Rattle.rc_stream.specs.Snapshot.{NoneLost}
+use Rattle.rc_shard.proofs.Counted.{if-ok-all}
 use Rattle.rc_shard.proofs.Standing.{taken-as}
 use Rattle.rc_shard.proofs.Filled.{filled-for, none-found, none-taken, other-chain}
-use Rattle.rc_shard.proofs.Known.{filled-known}
+use Rattle.rc_shard.proofs.Known.{filled-known, no-entry}
 use Rattle.rc_shard.proofs.Looking.{entry-snapshot, over-of, rest-plain, rest-of}
 use Rattle.rc_shard.proofs.shard.Shard.fill.Goals as goal
 
@@ -26,6 +29,19 @@ returns-in-Ok-Some-clause-says c = λ files m said s of join.
     let k = c.args.self.now in
     let new : Shard = record k { cache = c.take_populated.new.cache; unstored = in_chains c.take_populated.new.chains k.unstored } in
     entry-snapshot _ files k new m c.args.key.now c.in-Ok-Some.snap s refl (subst (λ o. IfSome o (IsHeldOf c.args.key.now c.take_populated.new.cache.entries k.unstored.chains c.take_populated.new.chains)) c.in-Ok-Some.field-0-is c.in-Ok-Some.ensures.taken)
+
+pub returns-in-Ok-Some-clause-held : goal.returns-in-Ok-Some-clause-held
+returns-in-Ok-Some-clause-held c = λ none.
+    let old = c.args.self.now.unstored.chains in
+    let new = c.take_populated.new.chains in
+    let whole = subst (λ o. IfSome o (λ s. NoneLost (losses old) (losses new) → IsHeldWhole new s)) c.in-Ok-Some.field-0-is c.in-Ok-Some.ensures.whole in
+    (whole none).known.static_row
+
+pub returns-in-Ok-None-clause-held : goal.returns-in-Ok-None-clause-held
+returns-in-Ok-None-clause-held c =
+    let b = c.take_populated.new.cache.entries in
+    let absent = subst (λ o. IfNone o (entry_number b c.args.key.now ≡ None)) c.in-Ok-None.field-0-is c.in-Ok-None.ensures.absent in
+    if-ok-all c.stream_read.result _ (λ source none. absurd (no-entry (entry_number b c.args.key.now) _ absent (c.in-Ok-None.ensures.known none)))
 
 pub returns-in-Ok-Some-clause-stays : goal.returns-in-Ok-Some-clause-stays
 returns-in-Ok-Some-clause-stays c =

@@ -9,6 +9,7 @@ use Rattle.rc_shard.specs.declared.readers.PartitionReader.{PartitionReader}
 use Rattle.rc_shard.specs.declared.shard.Shard.{Shard}
 use Rattle.rc_shard.specs.Readers.{IsCachedThere, cached_of, lies_below}
 use Rattle.rc_shard.specs.Releasing.{IsSnapGivenBack}
+use Rattle.rc_shard.specs.calls.Reading.{IsPastReader}
 use Rattle.rc_shard.proofs.GoneOn.{gone-at, past-any}
 use Rattle.rc_folder.specs.Tabled.{IsSaidByFirst}
 use Rattle.rc_paging.specs.Forms.{held_by}
@@ -35,7 +36,7 @@ returns-in_err-snap-clause-err c =
     let new : Shard = record k { unstored = in_chains c.go_past.new.chains k.unstored; readers = with_item k.readers c.args.at x } in
     let p = place-of q.0 k.readers.items c.args.at q.4 in
     let same : c.go_past.new.self ≡ d.1.reader = c.in_err-snap.ensures.err in
-    let b = paged-beside k new q.0 c.args.at d x p (sym c.index_mut.ensures.value) refl refl refl refl (ap held_by same) (ap (λ (n : Memory). in_chains n k.unstored) c.go_past.ensures.chains) refl refl refl refl refl in
+    let b = paged-beside k new q.0 c.args.at d x p (sym c.index_mut.ensures.value) refl refl refl refl (ap held_by same) (λ past. subst (λ r. IsPastReader r) (sym same) past) (λ past. subst (λ r. IsPastReader r) same past) (ap (λ (n : Memory). in_chains n k.unstored) c.go_past.ensures.chains) refl refl refl refl refl in
     on-err c.from_residual.result _ (left-unpaged _ c.a_reader_stays.ensures k new q.0 c.args.at d p (sym c.index_mut.ensures.value) b same, b)
 
 pub give_back-requires : goal.give_back-requires
@@ -55,7 +56,7 @@ returns-clause-past c = λ id files m o said s place here by join is fits.
     let p = place-of id k.readers.items c.args.at place in
     let same : o ≡ d = same-there id k.readers.items c.args.at o d p here (sym c.index_mut.ensures.value) in
     let back : IsSnapGivenBack (cached_of d.1) k.unstored.chains c.give_back.new.chains =
-    subst (λ (o : Option Snap). IsSnapGivenBack o k.unstored.chains c.give_back.new.chains) c.in_ok-snap.ensures.snap (subst (λ (n : Memory). IsSnapGivenBack c.in_ok-snap.snap n c.give_back.new.chains) c.go_past.ensures.chains c.give_back.ensures) in
+    subst (λ (o : Option Snap). IsSnapGivenBack o k.unstored.chains c.give_back.new.chains) c.in_ok-snap.ensures.snap (subst (λ (n : Memory). IsSnapGivenBack c.in_ok-snap.snap n c.give_back.new.chains) c.go_past.ensures.chains c.give_back.ensures.back) in
     gone-at _ c.a_reader_stays.ensures (λ schema u n writes later. c.what_leaves_the_chains_of_both_leaves_their_writes.ensures.beside 131072 schema u n writes later)
     files k new id c.args.at d x c.args.read said m
     (λ st first memory r below reader read over left opened joins anew. c.what_is_told_anew.ensures st.schema st first memory r below over.sealed over.active reader read

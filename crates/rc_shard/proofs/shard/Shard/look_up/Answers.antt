@@ -4,15 +4,17 @@ use Rattle.rc_lookup.specs.Memtables.{in_chains}
 use Rattle.rc_shard.specs.declared.shard.Shard.{Shard}
 use Rattle.rc_shard.specs.Readers.{number_of_snaps}
 use Rattle.rc_shard.specs.calls.Looking.{snap_taken}
-use Rattle.rc_shard.proofs.Known.{known-still}
-use Rattle.rc_shard.proofs.Looking.{beside-of, cached-looked, entry-snapshot, if-some, over-of, rest-of, used-for}
+use Rattle.rc_lookup.specs.Found.{entry_number}
+use Rattle.rc_lookup.specs.Known.{IsStaticRowIn}
+use Rattle.rc_shard.proofs.Known.{known-still, some-entry}
+use Rattle.rc_shard.proofs.Looking.{beside-of, both-some, cached-looked, entry-snapshot, if-some, over-of, rest-of, used-for}
 use Rattle.rc_shard.proofs.shard.Shard.look_up.Goals as goal
 
 pub take_known-requires : goal.take_known-requires
 take_known-requires c =
     let s = c.requires.2 in
     let schema = c.args.self.now.folder.schema in
-    (omega arith, (s.cached.are, (omega arith, (schema, (λ id phase. s.cached.below id), over-of schema c.args.self.now.cache.entries c.args.self.now.unstored.chains c.requires.1 s.cached))))
+    (omega arith, (s.cached.are, (schema, (λ id phase. s.cached.below id), over-of schema c.args.self.now.cache.entries c.args.self.now.unstored.chains c.requires.1 s.cached)))
 
 pub returns-clause-says : goal.returns-clause-says
 returns-clause-says c = λ files m s.
@@ -36,3 +38,9 @@ returns-clause-stays c = λ q. known-still c.args.self.now (record c.args.self.n
 
 pub returns-clause-loses : goal.returns-clause-loses
 returns-clause-loses c = c.take_known.ensures.loses
+
+pub returns-clause-known : goal.returns-clause-known
+returns-clause-known c = λ on. let e = some-entry (entry_number c.args.self.now.cache.entries c.args.key.now) (IsStaticRowIn c.args.self.now.unstored.chains) on in c.take_known.ensures.known e.0 e.1 e.2
+
+pub returns-clause-head : goal.returns-clause-head
+returns-clause-head c = both-some c.take_known.result _ _ c.take_known.ensures.head c.take_known.ensures.was

@@ -1,5 +1,5 @@
 -- A reader is opened, where its id is not open and fewer are than may be, and what the tables say is known or can be read.
-use Rattle.std.proofs.Common.{inl, refl, ◌≡◌, ◌==◌, ◌<◌, ◌≤◌, ℕ, List, Option, None, Err, IfOk, length, position, sym, ap, ◌∙◌, subst, arith}
+use Rattle.std.proofs.Common.{inl, inr, refl, ◌≡◌, ◌==◌, ◌<◌, ◌≤◌, ℕ, List, Option, None, Err, IfOk, length, position, sym, ap, ◌∙◌, subst, arith}
 use Rattle.rc_chain.specs.declared.chains.Snap.{Snap}
 use Rattle.rc_shard.specs.declared.readers.Opening.{Opening}
 use Rattle.rc_shard.specs.declared.readers.PartitionReader.{PartitionReader}
@@ -17,7 +17,8 @@ use Rattle.rc_shard.proofs.Known.{known-itself, known-reserved, on-opened, on-un
 use Rattle.rc_shard.proofs.Opening.{opened-by}
 use Rattle.rc_shard.proofs.Pinned.{filled-opened, filled-unread, recent-opened, recent-unread, told-opened, told-unread}
 use Rattle.rc_shard.proofs.Places.{nowhere-of, open-none, open-some}
-use Rattle.rc_shard.proofs.Standing.{if-ok-weaker, on-each, on-err, taken-as}
+use Rattle.rc_shard.specs.Filling.{IsHeldByReader}
+use Rattle.rc_shard.proofs.Standing.{if-ok-both, on-each, on-err, taken-as}
 use Rattle.rc_shard.proofs.Taking.{opened-of, stands-reserved, takes-in-use, takes-too-many, unread-faults, unread-of}
 use Rattle.rc_shard.proofs.shard.Shard.open_read.Goals as goal
 
@@ -108,21 +109,28 @@ returns-in-Err-clause-pins g c =
     told-unread c.args.id c.args.key.now c.args.slice.now c.args.self.now.readers.items c.args.self.now.unstored c.source_of.new.self.readers.items c.source_of.new.self.unstored c.in-Err.error c.not_read.result c.not_read.ensures
 
 pub returns-in-Ok-clause-known : goal.returns-in-Ok-clause-known
-returns-in-Ok-clause-known g c = λ whole. c.source_of.ensures.known whole
+returns-in-Ok-clause-known g c = λ on. c.source_of.ensures.known on
 
 pub returns-in-Err-clause-known : goal.returns-in-Err-clause-known
-returns-in-Err-clause-known g c = λ whole. c.source_of.ensures.known whole
+returns-in-Err-clause-known g c = λ on. c.source_of.ensures.known on
 
 pub returns-in-Ok-clause-filled : goal.returns-in-Ok-clause-filled
 returns-in-Ok-clause-filled g c =
-    let old = c.args.self.now.unstored.chains in
-    let mid = c.source_of.new.self.unstored.chains in
-    let new = c.open_over.new.self.unstored.chains in
-    filled-opened c.args.id c.args.key.now c.args.slice.now c.args.self.now c.source_of.new.self c.open_over.new.self c.open_over.result c.open_over.ensures.fine (if-ok-weaker c.open_over.result _ _ (λ _ h. (h c.args.key.now).whole) c.open_over.ensures.stays)
-    (λ none. c.in-Ok.ensures.whole (lost-within old old mid new (no-count old) (rest-of _ old mid c.source_of.ensures.beside.rest).counts c.open_over.ensures.counts.none_fell none))
+    let k = c.args.self.now in
+    let l = c.source_of.new.self in
+    let k2 = c.open_over.new.self in
+    let key = c.args.key.now in
+    let s = stands-reserved _ (g.W.Store.files c.args.store.now) k c.reserve.new.self c.requires.0 c.reserve.ensures.items c.requires.1 in
+    let is = subst (λ (q : List ℕ). IsSourceIn l c.requires.0 q c.in-Ok.source) (sym (ap (λ (o : Opening). o.key) c.in_ok-opening.ensures)) (c.in-Ok.ensures.says c.requires.0 s) in
+    let unlost = lost-within k.unstored.chains k.unstored.chains l.unstored.chains k2.unstored.chains (no-count k.unstored.chains) (rest-of _ k.unstored.chains l.unstored.chains c.source_of.ensures.beside.rest).counts c.open_over.ensures.counts.none_fell in
+    filled-opened c.args.id key c.args.slice.now k (g.W.Store.asks c.args.store.now) (g.W.Store.asks c.source_of.new.store) k2 c.open_over.result c.open_over.ensures.fine
+    (if-ok-both c.open_over.result _ _ _ (λ h t none. record {
+      held = subst (λ (q : List ℕ). IsHeldByReader c.args.id q k2) (ap (λ (o : Opening). o.key) c.in_ok-opening.ensures) (h (c.in-Ok.ensures.held (unlost none)));
+      whole = elim (c.in-Ok.ensures.whole (unlost none)) [ inl on ↦ inl on | inr all ↦ inr ((t key).whole all) ];
+    }) (c.open_over.ensures.held c.requires.0 is) c.open_over.ensures.stays)
 
 pub returns-in-Err-clause-filled : goal.returns-in-Err-clause-filled
-returns-in-Err-clause-filled g c = filled-unread c.args.id c.args.key.now c.args.slice.now c.args.self.now c.source_of.new.self c.in-Err.error c.not_read.result c.not_read.ensures
+returns-in-Err-clause-filled g c = filled-unread c.args.id c.args.key.now c.args.slice.now c.args.self.now (g.W.Store.asks c.args.store.now) (g.W.Store.asks c.source_of.new.store) c.source_of.new.self c.in-Err.error c.not_read.result c.not_read.ensures
 
 -- ---- what is known still, and what is recent
 
@@ -146,7 +154,7 @@ returns-in-Err-clause-stays g c =
     (unless-weaker {T = Source} (Err c.in-Err.error) _ _ (known-reserved c.args.self.now c.reserve.new.self c.source_of.new.self) (subst (λ r. UnlessMemory r (AreKnownStill (record c.args.self.now { readers = c.reserve.new.self }) c.source_of.new.self)) c.in-Err.is c.source_of.ensures.stays)) c.not_read.ensures
 
 pub returns-in-Ok-clause-recent : goal.returns-in-Ok-clause-recent
-returns-in-Ok-clause-recent g c = recent-opened c.args.id c.args.key.now c.args.slice.now c.args.self.now c.source_of.new.self c.open_over.new.self c.open_over.result c.open_over.ensures.fine c.open_over.ensures.recency (λ whole. c.in-Ok.ensures.hit whole)
+returns-in-Ok-clause-recent g c = recent-opened c.args.id c.args.key.now c.args.slice.now c.args.self.now c.source_of.new.self c.open_over.new.self c.open_over.result c.open_over.ensures.fine c.open_over.ensures.recency (λ on. c.in-Ok.ensures.hit on)
 
 pub returns-in-Err-clause-recent : goal.returns-in-Err-clause-recent
 returns-in-Err-clause-recent g c = recent-unread c.args.id c.args.key.now c.args.slice.now c.args.self.now c.source_of.new.self c.in-Err.error c.not_read.result c.not_read.ensures

@@ -1,16 +1,21 @@
--- A reader's partition is read from the tables of its opening, and it goes on past the row cache.
-use Rattle.std.proofs.Common.{◌≡◌, ℕ, get_or, sym, ap, ◌∙◌}
-use Rattle.rc_lines.specs.declared.commands.Reply.TheVariants.{Given}
-use Rattle.rc_machine.specs.Steps.{reader_past}
+-- A reader's partition is read from the tables of its opening, and put into the row cache; then the reader goes on past that.
+use Rattle.std.proofs.Common.{◌≡◌, ◌==◌, ℕ, List, Some, get_or, position, sym, ap, ◌∙◌, subst}
+use Rattle.std.specs.Prelude.{None}
+use Rattle.rc_lines.specs.declared.commands.Command.TheVariants.{Read}
+use Rattle.rc_folder.specs.Tabled.{Tabled}
+use Rattle.rc_lookup.specs.Crowds.{loses-before}
 use Rattle.rc_shard.specs.declared.readers.PartitionReader.{PartitionReader}
-use Rattle.rc_shard.specs.Readers.{cached_of}
-use Rattle.rc_shard.specs.calls.Reading.{with_reader}
-use Rattle.rc_shard.proofs.Closing.{past-rest}
+use Rattle.rc_shard.specs.calls.Looking.{AreKnownStill}
+use Rattle.rc_shard.specs.calls.Reading.{IsReadOfFirst, IsRefilled}
+use Rattle.rc_shard.proofs.Counted.{if-ok-all}
 use Rattle.rc_shard.proofs.Filled.{read-fits}
-use Rattle.rc_shard.proofs.Given.{asks-within, counts-after, given-counts, given-of, gone-counts, gone-place, paged-kept, paged-place, stays-gone, stays-past, stays-untold, stops-anew, stops-same, takes-told, there-now, told-by, touches-gone, untold-counts, untold-of}
+use Rattle.rc_shard.proofs.Given.{apart-refilled, asks-within, counts-after, keeps-by, put-past, stops-behind, stops-over, stops-same, stops-to, takes-behind, whole-past}
+use Rattle.rc_shard.proofs.Known.{known-then}
+use Rattle.rc_shard.proofs.Looking.{counts-used, lost-within, no-count, on-ok, on-ok-weaker, rest-of}
+use Rattle.rc_shard.proofs.Losing.{crowded-since}
 use Rattle.rc_shard.proofs.Places.{place-of}
-use Rattle.rc_shard.proofs.Standing.{on-err}
-use Rattle.rc_shard.proofs.Taking.{found-at, takes-anew, takes-unread}
+use Rattle.rc_shard.proofs.Standing.{if-ok-weaker, on-err, on-err-weaker}
+use Rattle.rc_shard.proofs.Taking.{found-at, takes-unread, to-files}
 use Rattle.rc_shard.proofs.shard.Shard.read_past.Goals as goal
 
 pub read_first-requires : goal.read_first-requires
@@ -21,186 +26,158 @@ read_first-requires g c =
     let f = found-at _ (g.W.Store.files c.args.store.now) k q.1 q.0 c.args.at d q.2 (place-of q.0 k.readers.items c.args.at q.3) (sym c.index.ensures) in
     (q.1, f.served.opened.later, q.2.over, sym q.2.over.infos ∙ f.served.opened.are)
 
-pub page-requires : goal.page-requires
-page-requires g c =
+pub refill-requires-clause-place : goal.refill-requires-clause-place
+refill-requires-clause-place g c = (c.requires.0, g.W.Store.files c.args.store.now, c.requires.1, c.requires.2, c.requires.3)
+
+pub refill-requires-clause-fits : goal.refill-requires-clause-fits
+refill-requires-clause-fits g c =
     let files = g.W.Store.files c.args.store.now in
     let q = c.requires in
     let k = c.args.self.now in
-    let l = c.go_past.new.self in
     let d : ℕ × PartitionReader = c.index.result.now in
     let here : get_or k.readers.items c.args.at d ≡ d = sym c.index.ensures in
-    let gone = c.in_ok-go_past-in-Ok.ensures.gone d here in
-    let now = gone-place k l q.0 c.args.at d here gone q.3 in
     let fits = read-fits k.folder.schema c.in-Ok.read d.1.tables d.1.key c.in-Ok.ensures.mutation (λ read changes is join. c.a_join_says_what_the_writes_say.ensures read changes is join) (λ schema read changes is same fits. c.what_says_the_same_fits.ensures schema read changes is same fits) c.in-Ok.ensures.some in
-    let told = told-by _ files k l c.args.at d c.in-Ok.read here (λ m later over are. c.in-Ok.ensures.said m later over are) c.in-Ok.ensures.mutation fits (λ id files m o said s place there by join is fits. c.in_ok-go_past-in-Ok.ensures.past id files m o said s place there by join is fits) in
-    let t = told q.0 q.3 q.1 q.2 in
-    (q.0, files, with_reader q.0 (record (t.reader) { said = t.said }) q.1, t.stands, now)
+    fits
 
-pub give-requires : goal.give-requires
-give-requires g c =
+pub pass-requires : goal.pass-requires
+pass-requires g c =
     let files = g.W.Store.files c.args.store.now in
     let q = c.requires in
     let k = c.args.self.now in
-    let l = c.go_past.new.self in
-    let mid = c.page.new.self in
     let d : ℕ × PartitionReader = c.index.result.now in
     let here : get_or k.readers.items c.args.at d ≡ d = sym c.index.ensures in
-    let gone = c.in_ok-go_past-in-Ok.ensures.gone d here in
-    let now = gone-place k l q.0 c.args.at d here gone q.3 in
     let fits = read-fits k.folder.schema c.in-Ok.read d.1.tables d.1.key c.in-Ok.ensures.mutation (λ read changes is join. c.a_join_says_what_the_writes_say.ensures read changes is join) (λ schema read changes is same fits. c.what_says_the_same_fits.ensures schema read changes is same fits) c.in-Ok.ensures.some in
-    let told = told-by _ files k l c.args.at d c.in-Ok.read here (λ m later over are. c.in-Ok.ensures.said m later over are) c.in-Ok.ensures.mutation fits (λ id files m o said s place there by join is fits. c.in_ok-go_past-in-Ok.ensures.past id files m o said s place there by join is fits) in
-    let t = told q.0 q.3 q.1 q.2 in
-    let st = with_reader q.0 (record (t.reader) { said = t.said }) q.1 in
-    let p = c.in-Ok-page.ensures.gives q.0 files st t.stands now in
-    (q.0, files, with_reader q.0 (reader_past c.args.count p.reader) st, p.stands, paged-place l mid q.0 c.args.at c.page.ensures.beside now)
+    let read : IsReadOfFirst files k.folder d.1 c.in-Ok.read = record { said = λ m later over are. c.in-Ok.ensures.said m later over are; mutation = c.in-Ok.ensures.mutation; fits = fits } in
+    let f = c.refill.new.self in
+    let beside = c.refill.ensures.beside in
+    let items = ap (λ readers. readers.items) beside.readers in
+    let there : get_or f.readers.items c.args.at d ≡ d = subst (λ (os : List (ℕ × PartitionReader)). get_or os c.args.at d ≡ d) (sym items) here in
+    let now : IsReadOfFirst files f.folder d.1 c.in-Ok.read = subst (λ (t : Tabled). IsReadOfFirst files t d.1 c.in-Ok.read) (sym beside.folder) read in
+    let place = subst (λ (os : List (ℕ × PartitionReader)). position (λ reader. reader.0 == q.0) os ≡ Some c.args.at) (sym items) q.3 in
+    let keeps = keeps-by _ files k f q.0 c.args.at d c.in-Ok.read here q.3 read (λ id files m o said s place there by join. c.refill.ensures.keeps id files m o said s place there by join) in
+    (q.0, files, q.1, d, keeps q.1 q.2, place, there, now)
 
--- ---- a page was given
+-- ---- it was read
 
-pub returns-in-Ok-page-clause-step : goal.returns-in-Ok-page-clause-step
-returns-in-Ok-page-clause-step g c = λ id place.
+pub returns-in_ok-refill-in-Ok-clause-step : goal.returns-in_ok-refill-in-Ok-clause-step
+returns-in_ok-refill-in-Ok-clause-step g c = λ id place.
     let files = g.W.Store.files c.args.store.now in
+    let q = c.requires in
     let k = c.args.self.now in
-    let l = c.go_past.new.self in
-    let mid = c.page.new.self in
-    let k2 = c.give.new.self in
     let d : ℕ × PartitionReader = c.index.result.now in
     let here : get_or k.readers.items c.args.at d ≡ d = sym c.index.ensures in
-    let gone = c.in_ok-go_past-in-Ok.ensures.gone d here in
-    let now = gone-place k l id c.args.at d here gone place in
     let fits = read-fits k.folder.schema c.in-Ok.read d.1.tables d.1.key c.in-Ok.ensures.mutation (λ read changes is join. c.a_join_says_what_the_writes_say.ensures read changes is join) (λ schema read changes is same fits. c.what_says_the_same_fits.ensures schema read changes is same fits) c.in-Ok.ensures.some in
-    let told = told-by _ files k l c.args.at d c.in-Ok.read here (λ m later over are. c.in-Ok.ensures.said m later over are) c.in-Ok.ensures.mutation fits (λ id files m o said s place there by join is fits. c.in_ok-go_past-in-Ok.ensures.past id files m o said s place there by join is fits) in
-    takes-told _ files (g.W.Store.files c.read_first.new.store) k k2 id c.args.count c.give.result (Given c.in-Ok-page.lines c.in-Ok-page.more) c.give.ensures.reply c.read_first.ensures.store.0
-    (takes-anew _ files k l k2 id c.args.count c.in-Ok-page.lines c.in-Ok-page.more (told id place)
-    (λ m s. paged-kept _ files id c.args.count m (c.in-Ok-page.lines, c.in-Ok-page.more) mid k2 c.give.ensures.keeps (c.in-Ok-page.ensures.gives id files m s now)))
+    let read : IsReadOfFirst files k.folder d.1 c.in-Ok.read = record { said = λ m later over are. c.in-Ok.ensures.said m later over are; mutation = c.in-Ok.ensures.mutation; fits = fits } in
+    let f = c.refill.new.self in
+    let beside = c.refill.ensures.beside in
+    let items = ap (λ readers. readers.items) beside.readers in
+    let there : get_or f.readers.items c.args.at d ≡ d = subst (λ (os : List (ℕ × PartitionReader)). get_or os c.args.at d ≡ d) (sym items) here in
+    let now : IsReadOfFirst files f.folder d.1 c.in-Ok.read = subst (λ (t : Tabled). IsReadOfFirst files t d.1 c.in-Ok.read) (sym beside.folder) read in
+    let own = subst (λ (os : List (ℕ × PartitionReader)). position (λ reader. reader.0 == id) os ≡ Some c.args.at) (sym items) place in
+    let keeps = keeps-by _ files k f id c.args.at d c.in-Ok.read here place read (λ id files m o said s place there by join. c.refill.ensures.keeps id files m o said s place there by join) in
+    if-ok-weaker c.pass.result _ _ (λ reply t. to-files _ files k c.pass.new.self (g.W.Store.files c.read_first.new.store) (Read id c.args.count) reply c.read_first.ensures.store.0 (takes-behind _ files files k f c.pass.new.self id c.args.count reply keeps t))
+    (c.pass.ensures.step id files d own there now)
 
-pub returns-in-Ok-page-clause-asks : goal.returns-in-Ok-page-clause-asks
-returns-in-Ok-page-clause-asks g c = λ id m place s.
+pub returns-in_ok-refill-in-Ok-clause-err : goal.returns-in_ok-refill-in-Ok-clause-err
+returns-in_ok-refill-in-Ok-clause-err g c = λ id place.
+    let files = g.W.Store.files c.args.store.now in
+    let q = c.requires in
+    let k = c.args.self.now in
+    let d : ℕ × PartitionReader = c.index.result.now in
+    let here : get_or k.readers.items c.args.at d ≡ d = sym c.index.ensures in
+    let fits = read-fits k.folder.schema c.in-Ok.read d.1.tables d.1.key c.in-Ok.ensures.mutation (λ read changes is join. c.a_join_says_what_the_writes_say.ensures read changes is join) (λ schema read changes is same fits. c.what_says_the_same_fits.ensures schema read changes is same fits) c.in-Ok.ensures.some in
+    let read : IsReadOfFirst files k.folder d.1 c.in-Ok.read = record { said = λ m later over are. c.in-Ok.ensures.said m later over are; mutation = c.in-Ok.ensures.mutation; fits = fits } in
+    let f = c.refill.new.self in
+    let beside = c.refill.ensures.beside in
+    let items = ap (λ readers. readers.items) beside.readers in
+    let there : get_or f.readers.items c.args.at d ≡ d = subst (λ (os : List (ℕ × PartitionReader)). get_or os c.args.at d ≡ d) (sym items) here in
+    let now : IsReadOfFirst files f.folder d.1 c.in-Ok.read = subst (λ (t : Tabled). IsReadOfFirst files t d.1 c.in-Ok.read) (sym beside.folder) read in
+    let own = subst (λ (os : List (ℕ × PartitionReader)). position (λ reader. reader.0 == id) os ≡ Some c.args.at) (sym items) place in
+    let keeps = keeps-by _ files k f id c.args.at d c.in-Ok.read here place read (λ id files m o said s place there by join. c.refill.ensures.keeps id files m o said s place there by join) in
+    on-err-weaker c.pass.result _ _ (λ t. stops-to _ files (g.W.Store.files c.read_first.new.store) k c.pass.new.self id c.args.count c.read_first.ensures.store.0 (stops-behind _ files files k f c.pass.new.self id c.args.count keeps t))
+    (c.pass.ensures.err id files d own there now)
+
+pub returns-in_ok-refill-in-Ok-clause-faults : goal.returns-in_ok-refill-in-Ok-clause-faults
+returns-in_ok-refill-in-Ok-clause-faults g c = (c.in-Ok.ensures.cause, c.pass.ensures.faultless (g.W.Store.faults c.args.store.now) (g.W.Store.faults c.read_first.new.store))
+
+pub returns-in_ok-refill-in-Ok-clause-asks : goal.returns-in_ok-refill-in-Ok-clause-asks
+returns-in_ok-refill-in-Ok-clause-asks g c = λ id m place s.
     let k = c.args.self.now in
     let d : ℕ × PartitionReader = c.index.result.now in
     asks-within _ (g.W.Store.files c.args.store.now) k m id c.args.at d (g.W.Store.asks c.args.store.now) (g.W.Store.asks c.read_first.new.store) (place-of id k.readers.items c.args.at place) (sym c.index.ensures) s c.read_first.ensures.asks
 
-pub returns-in-Ok-page-clause-same : goal.returns-in-Ok-page-clause-same
-returns-in-Ok-page-clause-same g c =
-    let q = c.requires in
+pub returns-in_ok-refill-in-Ok-clause-filled : goal.returns-in_ok-refill-in-Ok-clause-filled
+returns-in_ok-refill-in-Ok-clause-filled g c = λ o own.
     let k = c.args.self.now in
-    let l = c.go_past.new.self in
-    let mid = c.page.new.self in
-    let k2 = c.give.new.self in
-    let d : ℕ × PartitionReader = c.index.result.now in
-    let here : get_or k.readers.items c.args.at d ≡ d = sym c.index.ensures in
-    let gone = c.in_ok-go_past-in-Ok.ensures.gone d here in
-    let x = gone.reader in
-    let now = gone-place k l q.0 c.args.at d here gone q.3 in
-    let given = given-of l mid k2 q.0 c.args.at x c.in-Ok-page.lines (place-of q.0 l.readers.items c.args.at now) (there-now k l q.0 c.args.at x (place-of q.0 k.readers.items c.args.at q.3) gone.readers) c.page.ensures.beside c.give.ensures.beside (λ o h. c.give.ensures.touches o h) c.give.ensures.left in
-    given.counts ∙ (past-rest (cached_of d.1) k.unstored.chains l.unstored.chains gone.past).counts
+    let f = c.refill.new.self in
+    let k2 = c.pass.new.self in
+    let beside = c.refill.ensures.beside in
+    let items = ap (λ readers. readers.items) beside.readers in
+    let d = o in
+    let here = own in
+    let there : get_or f.readers.items c.args.at d ≡ d = subst (λ (os : List (ℕ × PartitionReader)). get_or os c.args.at d ≡ d) (sym items) here in
+    let refilled : IsRefilled d.1 k f = c.in_ok-refill-in-Ok.ensures.refilled d here in
+    let first = (rest-of None k.unstored.chains f.unstored.chains beside.rest).counts in
+    let since = c.pass.ensures.counts.none_fell in
+    if-ok-all c.pass.result _ (λ reply. put-past d.1 reply k k2 (λ none holds.
+    whole-past d.1 k f k2 refilled holds (lost-within k.unstored.chains k.unstored.chains f.unstored.chains k2.unstored.chains (no-count k.unstored.chains) first since none)
+    (λ apart. c.pass.ensures.stays d d.1.key there apart (lost-within k.unstored.chains f.unstored.chains k2.unstored.chains k2.unstored.chains first since (no-count k2.unstored.chains) none))))
 
-pub returns-in-Ok-page-clause-stays : goal.returns-in-Ok-page-clause-stays
-returns-in-Ok-page-clause-stays g c = λ id.
-    let q = c.requires in
+pub returns-in_ok-refill-in-Ok-clause-stays : goal.returns-in_ok-refill-in-Ok-clause-stays
+returns-in_ok-refill-in-Ok-clause-stays g c = λ id.
     let k = c.args.self.now in
-    let l = c.go_past.new.self in
-    let mid = c.page.new.self in
-    let k2 = c.give.new.self in
+    let f = c.refill.new.self in
+    let k2 = c.pass.new.self in
+    let beside = c.refill.ensures.beside in
+    let items = ap (λ readers. readers.items) beside.readers in
     let d : ℕ × PartitionReader = c.index.result.now in
     let here : get_or k.readers.items c.args.at d ≡ d = sym c.index.ensures in
-    let gone = c.in_ok-go_past-in-Ok.ensures.gone d here in
-    let x = gone.reader in
-    let now = gone-place k l q.0 c.args.at d here gone q.3 in
-    let given = given-of l mid k2 q.0 c.args.at x c.in-Ok-page.lines (place-of q.0 l.readers.items c.args.at now) (there-now k l q.0 c.args.at x (place-of q.0 k.readers.items c.args.at q.3) gone.readers) c.page.ensures.beside c.give.ensures.beside (λ o h. c.give.ensures.touches o h) c.give.ensures.left in
-    stays-gone id c.args.count c.args.at d x c.in-Ok-page.lines k l k2 q.2.cached.are c.known.ensures.told gone given
+    let there : get_or f.readers.items c.args.at d ≡ d = subst (λ (os : List (ℕ × PartitionReader)). get_or os c.args.at d ≡ d) (sym items) here in
+    let refilled : IsRefilled d.1 k f = c.in_ok-refill-in-Ok.ensures.refilled d here in
+    let first = (rest-of None k.unstored.chains f.unstored.chains beside.rest).counts in
+    let since = c.pass.ensures.counts.none_fell in
+    let stays : AreKnownStill k f = c.in_ok-refill-in-Ok.ensures.stays in
+    on-ok c.pass.result _ (λ none key listed. known-then k f k2 key
+    (stays (lost-within k.unstored.chains k.unstored.chains f.unstored.chains k2.unstored.chains (no-count k.unstored.chains) first since none) key)
+    (c.pass.ensures.stays d key there (apart-refilled d.1 k f key refilled listed) (lost-within k.unstored.chains f.unstored.chains k2.unstored.chains k2.unstored.chains first since (no-count k2.unstored.chains) none)))
 
-pub returns-in-Ok-page-clause-touches : goal.returns-in-Ok-page-clause-touches
-returns-in-Ok-page-clause-touches g c = λ id place.
-    let q = c.requires in
-    let k = c.args.self.now in
-    let l = c.go_past.new.self in
-    let mid = c.page.new.self in
-    let k2 = c.give.new.self in
-    let d : ℕ × PartitionReader = c.index.result.now in
-    let here : get_or k.readers.items c.args.at d ≡ d = sym c.index.ensures in
-    let gone = c.in_ok-go_past-in-Ok.ensures.gone d here in
-    let x = gone.reader in
-    let now = gone-place k l q.0 c.args.at d here gone q.3 in
-    let given = given-of l mid k2 q.0 c.args.at x c.in-Ok-page.lines (place-of q.0 l.readers.items c.args.at now) (there-now k l q.0 c.args.at x (place-of q.0 k.readers.items c.args.at q.3) gone.readers) c.page.ensures.beside c.give.ensures.beside (λ o h. c.give.ensures.touches o h) c.give.ensures.left in
-    touches-gone id c.args.count c.args.at d c.in-Ok-page.lines c.in-Ok-page.more c.give.result k l k2 (place-of id k.readers.items c.args.at place) here c.give.ensures.reply gone given
+pub returns-in_ok-refill-in-Ok-clause-touches : goal.returns-in_ok-refill-in-Ok-clause-touches
+returns-in_ok-refill-in-Ok-clause-touches g c = λ id place o own.
+    let items = ap (λ readers. readers.items) c.refill.ensures.beside.readers in
+    c.pass.ensures.touches id o (subst (λ (os : List (ℕ × PartitionReader)). position (λ reader. reader.0 == id) os ≡ Some c.args.at) (sym items) place) (subst (λ (os : List (ℕ × PartitionReader)). get_or os c.args.at o ≡ o) (sym items) own)
 
-pub returns-in-Ok-page-clause-counts : goal.returns-in-Ok-page-clause-counts
-returns-in-Ok-page-clause-counts g c =
-    let q = c.requires in
-    let k = c.args.self.now in
-    let l = c.go_past.new.self in
-    let mid = c.page.new.self in
-    let k2 = c.give.new.self in
-    let d : ℕ × PartitionReader = c.index.result.now in
-    let here : get_or k.readers.items c.args.at d ≡ d = sym c.index.ensures in
-    let gone = c.in_ok-go_past-in-Ok.ensures.gone d here in
-    let x = gone.reader in
-    let now = gone-place k l q.0 c.args.at d here gone q.3 in
-    let given = given-of l mid k2 q.0 c.args.at x c.in-Ok-page.lines (place-of q.0 l.readers.items c.args.at now) (there-now k l q.0 c.args.at x (place-of q.0 k.readers.items c.args.at q.3) gone.readers) c.page.ensures.beside c.give.ensures.beside (λ o h. c.give.ensures.touches o h) c.give.ensures.left in
-    counts-after k l k2 (gone-counts c.args.at d k l gone) (given-counts x c.in-Ok-page.lines l k2 given)
+pub returns-in_ok-refill-in-Ok-clause-crowds : goal.returns-in_ok-refill-in-Ok-clause-crowds
+returns-in_ok-refill-in-Ok-clause-crowds g c =
+    let old = c.args.self.now.unstored.chains in
+    let mid = c.refill.new.self.unstored.chains in
+    let new = c.pass.new.self.unstored.chains in
+    on-ok-weaker c.pass.result _ _ (λ l. crowded-since old new (loses-before 131072 1 old mid new c.refill.ensures.loses l)) c.pass.ensures.loses
+
+pub returns-in_ok-refill-in-Ok-clause-counts : goal.returns-in_ok-refill-in-Ok-clause-counts
+returns-in_ok-refill-in-Ok-clause-counts g c = counts-after c.args.self.now c.refill.new.self c.pass.new.self (counts-used None c.args.self.now c.refill.new.self c.refill.ensures.beside) c.pass.ensures.counts
 
 -- ---- memory ran out
 
-pub returns-in-Err-page-clause-err : goal.returns-in-Err-page-clause-err
-returns-in-Err-page-clause-err g c = λ id place.
+pub returns-in_err-refill-in-Ok-clause-err : goal.returns-in_err-refill-in-Ok-clause-err
+returns-in_err-refill-in-Ok-clause-err g c = λ id place.
     let files = g.W.Store.files c.args.store.now in
+    let q = c.requires in
     let k = c.args.self.now in
-    let l = c.go_past.new.self in
     let d : ℕ × PartitionReader = c.index.result.now in
     let here : get_or k.readers.items c.args.at d ≡ d = sym c.index.ensures in
     let fits = read-fits k.folder.schema c.in-Ok.read d.1.tables d.1.key c.in-Ok.ensures.mutation (λ read changes is join. c.a_join_says_what_the_writes_say.ensures read changes is join) (λ schema read changes is same fits. c.what_says_the_same_fits.ensures schema read changes is same fits) c.in-Ok.ensures.some in
-    let told = told-by _ files k l c.args.at d c.in-Ok.read here (λ m later over are. c.in-Ok.ensures.said m later over are) c.in-Ok.ensures.mutation fits (λ id files m o said s place there by join is fits. c.in_ok-go_past-in-Ok.ensures.past id files m o said s place there by join is fits) in
-    stops-anew _ files (g.W.Store.files c.read_first.new.store) k l c.page.new.self id c.args.count c.read_first.ensures.store.0 (told id place) c.in-Err-page.ensures.err
+    let read : IsReadOfFirst files k.folder d.1 c.in-Ok.read = record { said = λ m later over are. c.in-Ok.ensures.said m later over are; mutation = c.in-Ok.ensures.mutation; fits = fits } in
+    on-err c.from_residual.result _ (stops-over _ files (g.W.Store.files c.read_first.new.store) k c.refill.new.self id c.args.count c.read_first.ensures.store.0
+    (keeps-by _ files k c.refill.new.self id c.args.at d c.in-Ok.read here place read (λ id files m o said s place there by join. c.refill.ensures.keeps id files m o said s place there by join)))
 
-pub returns-in-Err-page-clause-asks : goal.returns-in-Err-page-clause-asks
-returns-in-Err-page-clause-asks g c = λ id m place s.
+pub returns-in_err-refill-in-Ok-clause-asks : goal.returns-in_err-refill-in-Ok-clause-asks
+returns-in_err-refill-in-Ok-clause-asks g c = λ id m place s.
     let k = c.args.self.now in
     let d : ℕ × PartitionReader = c.index.result.now in
     asks-within _ (g.W.Store.files c.args.store.now) k m id c.args.at d (g.W.Store.asks c.args.store.now) (g.W.Store.asks c.read_first.new.store) (place-of id k.readers.items c.args.at place) (sym c.index.ensures) s c.read_first.ensures.asks
 
-pub returns-in-Err-page-clause-stays : goal.returns-in-Err-page-clause-stays
-returns-in-Err-page-clause-stays g c = λ id.
-    let q = c.requires in
-    let k = c.args.self.now in
-    let l = c.go_past.new.self in
-    let d : ℕ × PartitionReader = c.index.result.now in
-    let gone = c.in_ok-go_past-in-Ok.ensures.gone d (sym c.index.ensures) in
-    stays-past id c.args.count c.args.at d k l c.page.new.self q.2.cached.are c.known.ensures.told gone (untold-of c.args.at l c.page.new.self c.page.ensures.beside)
-
-pub returns-in-Err-page-clause-counts : goal.returns-in-Err-page-clause-counts
-returns-in-Err-page-clause-counts g c =
-    let k = c.args.self.now in
-    let l = c.go_past.new.self in
-    let d : ℕ × PartitionReader = c.index.result.now in
-    let gone = c.in_ok-go_past-in-Ok.ensures.gone d (sym c.index.ensures) in
-    counts-after k l c.page.new.self (gone-counts c.args.at d k l gone) (untold-counts l c.page.new.self (untold-of c.args.at l c.page.new.self c.page.ensures.beside))
-
-pub returns-in-Err-page-clause-same : goal.returns-in-Err-page-clause-same
-returns-in-Err-page-clause-same g c =
-    let k = c.args.self.now in
-    let l = c.go_past.new.self in
-    let d : ℕ × PartitionReader = c.index.result.now in
-    let gone = c.in_ok-go_past-in-Ok.ensures.gone d (sym c.index.ensures) in
-    ap (λ u. u.chains.counts) c.page.ensures.beside.unstored ∙ (past-rest (cached_of d.1) k.unstored.chains l.unstored.chains gone.past).counts
-
-pub returns-in_err-go_past-in-Ok-clause-err : goal.returns-in_err-go_past-in-Ok-clause-err
-returns-in_err-go_past-in-Ok-clause-err g c = λ id place.
-    on-err c.from_residual.result _ (stops-same _ (g.W.Store.files c.args.store.now) (g.W.Store.files c.read_first.new.store) c.args.self.now c.go_past.new.self id c.args.count c.read_first.ensures.store.0 c.in_err-go_past-in-Ok.ensures.err.0)
-
-pub returns-in_err-go_past-in-Ok-clause-asks : goal.returns-in_err-go_past-in-Ok-clause-asks
-returns-in_err-go_past-in-Ok-clause-asks g c = λ id m place s.
-    let k = c.args.self.now in
-    let d : ℕ × PartitionReader = c.index.result.now in
-    asks-within _ (g.W.Store.files c.args.store.now) k m id c.args.at d (g.W.Store.asks c.args.store.now) (g.W.Store.asks c.read_first.new.store) (place-of id k.readers.items c.args.at place) (sym c.index.ensures) s c.read_first.ensures.asks
-
-pub returns-in_err-go_past-in-Ok-clause-stays : goal.returns-in_err-go_past-in-Ok-clause-stays
-returns-in_err-go_past-in-Ok-clause-stays g c = λ id. stays-untold id c.args.count c.args.self.now c.go_past.new.self (untold-of c.args.at c.args.self.now c.go_past.new.self c.in_err-go_past-in-Ok.ensures.err.1)
-
-pub returns-in_err-go_past-in-Ok-clause-same : goal.returns-in_err-go_past-in-Ok-clause-same
-returns-in_err-go_past-in-Ok-clause-same g c = ap (λ u. u.chains.counts) c.in_err-go_past-in-Ok.ensures.err.1.unstored
-
-pub returns-in_err-go_past-in-Ok-clause-counts : goal.returns-in_err-go_past-in-Ok-clause-counts
-returns-in_err-go_past-in-Ok-clause-counts g c = untold-counts c.args.self.now c.go_past.new.self (untold-of c.args.at c.args.self.now c.go_past.new.self c.in_err-go_past-in-Ok.ensures.err.1)
+pub returns-in_err-refill-in-Ok-clause-counts : goal.returns-in_err-refill-in-Ok-clause-counts
+returns-in_err-refill-in-Ok-clause-counts g c = counts-used None c.args.self.now c.refill.new.self c.refill.ensures.beside
 
 -- ---- it could not be read
 

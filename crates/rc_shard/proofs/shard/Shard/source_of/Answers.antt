@@ -1,14 +1,15 @@
 -- The cache knows the partition, or it is read.
-use Rattle.std.proofs.Common.{◌+◌, ◌*◌, ◌≤◌, Option, None, refl, ap, ◌∙◌, subst}
+use Rattle.std.proofs.Common.{inl, inr, ◌+◌, ◌*◌, ◌≤◌, Option, None, refl, ap, ◌∙◌, subst}
 use Rattle.std.specs.Prelude.{IfErr, IfOk, IfSome, IsSome, Ok}
 use Rattle.rc_tables.specs.Tables.{IsDamageOf, listing}
 use Rattle.rc_folder.specs.Tabled.{Tabled}
 use Rattle.rc_lookup.specs.Crowds.{loses-after}
 use Rattle.rc_lookup.specs.Losing.{loses-wider}
-use Rattle.rc_shard.specs.Knowing.{IsCachedWhole, IsPartitionRecent}
+use Rattle.rc_lookup.specs.Known.{KnowsStaticRow}
+use Rattle.rc_shard.specs.Knowing.{AreEndsRecent, IsStaticCached}
 use Rattle.rc_chain.specs.declared.chains.Snap.{Snap}
 use Rattle.rc_shard.specs.Readers.{number_of_snaps}
-use Rattle.rc_shard.proofs.Standing.{taken-as}
+use Rattle.rc_shard.proofs.Standing.{if-ok-weaker, taken-as}
 use Rattle.rc_shard.specs.calls.Looking.{AreKnownStill, IsCacheUsed, IsEntrySnapshot, snap_taken, source_taken}
 use Rattle.rc_shard.proofs.Known.{known-then, unless-weaker}
 use Rattle.rc_shard.proofs.Looking.{lost-within, no-count, none-some, on-ok, on-ok-weaker, rest-of, used-then}
@@ -24,17 +25,27 @@ pub returns-in-Ok-None-clause-says : goal.returns-in-Ok-None-clause-says
 returns-in-Ok-None-clause-says g c = λ m s. c.read_tables.ensures.says m (taken-as (ap (λ r. number_of_snaps (snap_taken r)) (c.in-Ok-None.is ∙ ap Ok c.in-Ok-None.field-0-is)) (c.look_up.ensures.keeps (g.W.Store.files c.args.store.now) m s))
 
 pub returns-in-Ok-None-clause-known : goal.returns-in-Ok-None-clause-known
-returns-in-Ok-None-clause-known g c = λ whole. absurd (none-some None refl (subst (λ r. IfOk r IsSome) (c.in-Ok-None.is ∙ ap Ok c.in-Ok-None.field-0-is) (c.look_up.ensures.known whole)))
+returns-in-Ok-None-clause-known g c = λ on. absurd (none-some None refl (subst (λ r. IfOk r IsSome) (c.in-Ok-None.is ∙ ap Ok c.in-Ok-None.field-0-is) (c.look_up.ensures.known on)))
+
+pub returns-in-Ok-Some-clause-held : goal.returns-in-Ok-Some-clause-held
+returns-in-Ok-Some-clause-held g c = λ none. (subst (λ r. IfOk r (λ o. IfSome o (λ (s : Snap). KnowsStaticRow c.look_up.new.self.unstored.chains s × IsStaticCached c.args.self.now c.args.key.now))) (c.in-Ok-Some.is ∙ ap Ok c.in-Ok-Some.field-0-is) c.look_up.ensures.head).0
+
+pub returns-in-Ok-None-clause-held : goal.returns-in-Ok-None-clause-held
+returns-in-Ok-None-clause-held g c =
+    let old = c.args.self.now.unstored.chains in
+    let mid = c.look_up.new.self.unstored.chains in
+    let new = c.read_tables.new.self.unstored.chains in
+    if-ok-weaker c.read_tables.result _ _ (λ source h none. h (lost-within old mid new new (rest-of _ old mid c.look_up.ensures.beside.rest).counts (rest-of _ mid new c.read_tables.ensures.beside.rest).counts (no-count new) none)) c.read_tables.ensures.held
 
 pub returns-in-Ok-Some-clause-whole : goal.returns-in-Ok-Some-clause-whole
-returns-in-Ok-Some-clause-whole g c = λ none. subst (λ r. IfOk r (λ o. IfSome o (λ _. IsCachedWhole c.look_up.new.self c.args.key.now))) (c.in-Ok-Some.is ∙ ap Ok c.in-Ok-Some.field-0-is) c.look_up.ensures.whole
+returns-in-Ok-Some-clause-whole g c = λ none. inl (subst (λ r. IfOk r (λ o. IfSome o (λ (s : Snap). KnowsStaticRow c.look_up.new.self.unstored.chains s × IsStaticCached c.args.self.now c.args.key.now))) (c.in-Ok-Some.is ∙ ap Ok c.in-Ok-Some.field-0-is) c.look_up.ensures.head).1
 
 pub returns-in-Ok-None-clause-whole : goal.returns-in-Ok-None-clause-whole
 returns-in-Ok-None-clause-whole g c =
     let old = c.args.self.now.unstored.chains in
     let mid = c.look_up.new.self.unstored.chains in
     let new = c.read_tables.new.self.unstored.chains in
-    on-ok-weaker c.read_tables.result _ _ (λ h none. h (lost-within old mid new new (rest-of _ old mid c.look_up.ensures.beside.rest).counts (rest-of _ mid new c.read_tables.ensures.beside.rest).counts (no-count new) none)) c.read_tables.ensures.whole
+    on-ok-weaker c.read_tables.result _ _ (λ h none. inr (h (lost-within old mid new new (rest-of _ old mid c.look_up.ensures.beside.rest).counts (rest-of _ mid new c.read_tables.ensures.beside.rest).counts (no-count new) none))) c.read_tables.ensures.whole
 
 pub returns-in-Ok-Some-clause-keeps : goal.returns-in-Ok-Some-clause-keeps
 returns-in-Ok-Some-clause-keeps g c = λ m s. taken-as (ap (λ r. number_of_snaps (snap_taken r)) (c.in-Ok-Some.is ∙ ap Ok c.in-Ok-Some.field-0-is)) (c.look_up.ensures.keeps (g.W.Store.files c.args.store.now) m s)
@@ -67,10 +78,10 @@ returns-in-Ok-None-clause-stays g c =
     (λ h none q. known-then c.args.self.now c.look_up.new.self c.read_tables.new.self q (c.look_up.ensures.stays q) (h (lost-within old mid new new (rest-of _ old mid c.look_up.ensures.beside.rest).counts (rest-of _ mid new c.read_tables.ensures.beside.rest).counts (no-count new) none) q)) c.read_tables.ensures.stays
 
 pub returns-in-Ok-Some-clause-hit : goal.returns-in-Ok-Some-clause-hit
-returns-in-Ok-Some-clause-hit g c = λ whole. subst (λ r. IfOk r (λ o. IfSome o (λ _. IsPartitionRecent c.args.key.now c.args.self.now c.look_up.new.self))) (c.in-Ok-Some.is ∙ ap Ok c.in-Ok-Some.field-0-is) c.look_up.ensures.hit
+returns-in-Ok-Some-clause-hit g c = λ on. subst (λ r. IfOk r (λ o. IfSome o (λ _. AreEndsRecent c.args.key.now c.args.self.now c.look_up.new.self))) (c.in-Ok-Some.is ∙ ap Ok c.in-Ok-Some.field-0-is) c.look_up.ensures.hit
 
 pub returns-in-Ok-None-clause-hit : goal.returns-in-Ok-None-clause-hit
-returns-in-Ok-None-clause-hit g c = on-ok c.read_tables.result _ (λ whole. absurd (none-some None refl (subst (λ r. IfOk r IsSome) (c.in-Ok-None.is ∙ ap Ok c.in-Ok-None.field-0-is) (c.look_up.ensures.known whole))))
+returns-in-Ok-None-clause-hit g c = on-ok c.read_tables.result _ (λ on. absurd (none-some None refl (subst (λ r. IfOk r IsSome) (c.in-Ok-None.is ∙ ap Ok c.in-Ok-None.field-0-is) (c.look_up.ensures.known on))))
 
 pub returns-in-Ok-Some-clause-loses : goal.returns-in-Ok-Some-clause-loses
 returns-in-Ok-Some-clause-loses g c = loses-wider 131072 1 c.args.self.now.unstored.chains c.look_up.new.self.unstored.chains c.look_up.ensures.loses

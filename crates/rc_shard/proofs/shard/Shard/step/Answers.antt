@@ -103,7 +103,7 @@ pub returns-in-Read-clause-known : goal.returns-in-Read-clause-known
 returns-in-Read-clause-known g c = rw (c.in-Read.is) c.read.ensures.known
 
 pub returns-in-Read-clause-filled : goal.returns-in-Read-clause-filled
-returns-in-Read-clause-filled g c = rw (c.in-Read.is) (if-ok-all c.read.result _ (λ reply. tt))
+returns-in-Read-clause-filled g c = rw (c.in-Read.is) c.read.ensures.filled
 
 pub returns-in-Flush-clause-known : goal.returns-in-Flush-clause-known
 returns-in-Flush-clause-known g c = rw (c.in-Flush.is) (λ m s. tt)
@@ -112,10 +112,23 @@ pub returns-in-Flush-clause-filled : goal.returns-in-Flush-clause-filled
 returns-in-Flush-clause-filled g c = rw (c.in-Flush.is) (if-ok-all c.flush.result _ (λ reply. tt))
 
 pub returns-in-OpenRead-clause-known : goal.returns-in-OpenRead-clause-known
-returns-in-OpenRead-clause-known g c = rw (c.in-OpenRead.is) (λ m s whole. c.open_read.ensures.known whole)
+returns-in-OpenRead-clause-known g c = rw (c.in-OpenRead.is) (λ m s on. c.open_read.ensures.known on)
 
 pub returns-in-OpenRead-clause-filled : goal.returns-in-OpenRead-clause-filled
 returns-in-OpenRead-clause-filled g c = rw (c.in-OpenRead.is) c.open_read.ensures.filled
+
+-- what a read passed
+pub returns-in-Put-clause-passes : goal.returns-in-Put-clause-passes
+returns-in-Put-clause-passes g c = rw (c.in-Put.is) (λ m s. if-ok-all c.put.result _ (λ reply. tt))
+
+pub returns-in-Read-clause-passes : goal.returns-in-Read-clause-passes
+returns-in-Read-clause-passes g c = rw (c.in-Read.is) c.read.ensures.passes
+
+pub returns-in-Flush-clause-passes : goal.returns-in-Flush-clause-passes
+returns-in-Flush-clause-passes g c = rw (c.in-Flush.is) (λ m s. if-ok-all c.flush.result _ (λ reply. tt))
+
+pub returns-in-OpenRead-clause-passes : goal.returns-in-OpenRead-clause-passes
+returns-in-OpenRead-clause-passes g c = rw (c.in-OpenRead.is) (λ m s. if-ok-all c.open_read.result _ (λ reply. tt))
 
 -- what is evicted
 pub returns-in-Evict-clause-step : goal.returns-in-Evict-clause-step
@@ -199,7 +212,7 @@ pub returns-in-Put-clause-stays : goal.returns-in-Put-clause-stays
 returns-in-Put-clause-stays g c = on-ok c.put.result _ (λ none key spared. left-known c.args.self.now c.put.new.self c.requires.stands.1.cached.are c.known.ensures.told c.put.ensures.left none key)
 
 pub returns-in-Read-clause-stays : goal.returns-in-Read-clause-stays
-returns-in-Read-clause-stays g c = rw (c.in-Read.is) (on-ok c.read.result _ c.read.ensures.stays)
+returns-in-Read-clause-stays g c = rw (c.in-Read.is) c.read.ensures.stays
 
 pub returns-in-Close-clause-stays : goal.returns-in-Close-clause-stays
 returns-in-Close-clause-stays g c = rw (c.in-Close.is) c.close_reader.ensures.stays
@@ -234,7 +247,7 @@ pub returns-in-OpenRead-clause-loses : goal.returns-in-OpenRead-clause-loses
 returns-in-OpenRead-clause-loses g c = rw (c.in-OpenRead.is) (on-ok c.open_read.result _ tt)
 
 pub returns-in-Read-clause-loses : goal.returns-in-Read-clause-loses
-returns-in-Read-clause-loses g c = rw (c.in-Read.is) (on-ok c.read.result _ (ap (λ (n : Counts). n.evicted) c.read.ensures.same, ap (λ (n : Counts). n.skipped) c.read.ensures.same))
+returns-in-Read-clause-loses g c = rw (c.in-Read.is) (on-ok c.read.result _ tt)
 
 pub returns-in-Close-clause-loses : goal.returns-in-Close-clause-loses
 returns-in-Close-clause-loses g c = rw (c.in-Close.is) (ap (λ (n : Counts). n.evicted) c.close_reader.ensures.same, ap (λ (n : Counts). n.skipped) c.close_reader.ensures.same)
@@ -253,7 +266,7 @@ pub returns-in-Put-clause-crowds : goal.returns-in-Put-clause-crowds
 returns-in-Put-clause-crowds g c = rw (c.in-Put.is) c.put.ensures.crowds
 
 pub returns-in-Read-clause-crowds : goal.returns-in-Read-clause-crowds
-returns-in-Read-clause-crowds g c = rw (c.in-Read.is) (on-ok c.read.result _ tt)
+returns-in-Read-clause-crowds g c = rw (c.in-Read.is) c.read.ensures.crowds
 
 pub returns-in-Flush-clause-crowds : goal.returns-in-Flush-clause-crowds
 returns-in-Flush-clause-crowds g c = rw (c.in-Flush.is) (on-ok-weaker c.flush.result _ _ (λ same. inl (ap (λ (n : Counts). n.evicted) same, ap (λ (n : Counts). n.skipped) same)) c.flush.ensures.same)

@@ -1,0 +1,1 @@
+-- Both are there, and are the same; or one is not, or they differ.
