@@ -26,7 +26,7 @@ all_held told schema [] kept = tt
 all_held told schema (t ∷ ts) kept = (refl, is_held told schema t (All-head (IsStoredTable told schema) t ts kept), all_held told schema ts (All-tail (IsStoredTable told schema) t ts kept))
 
 -- what is known of the tables is what is known of those that stand in the folder
-holds : (told : Files) (schema : SchemaValue) (infos : List TableInfo) (m : State) → IsOver (Some told) schema infos m → HoldsTables (Some told) schema infos m.tables
+pub holds : (told : Files) (schema : SchemaValue) (infos : List TableInfo) (m : State) → IsOver (Some told) schema infos m → HoldsTables (Some told) schema infos m.tables
 holds told schema infos m over =
     let are : AreTables (Some told) m.schema m.tables = subst (λ (files : Option Files). AreTables files m.schema m.tables) over.files over.tables in
     let known : AreListed (Some told) m.schema m.tables m.infos = subst (λ (files : Option Files). AreListed files m.schema m.tables m.infos) over.files over.listed in

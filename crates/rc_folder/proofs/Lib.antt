@@ -1,3 +1,4 @@
 pub mod Held
 pub mod Next
+pub mod Since
 pub mod Opened

@@ -1,9 +1,9 @@
 //! The tables of a folder, of one schema.
 
-ghost use Rattle.std.specs.Prelude.{◌≡◌, ◌+◌, ◌*◌, ◌≤◌, ◌++◌, [], ◌∷◌, ℕ, List, All, IfErr, IfOk, IfSome, OnErr, OnOk};
+ghost use Rattle.std.specs.Prelude.{◌≡◌, ◌+◌, ◌*◌, ◌≤◌, ◌<◌, ◌++◌, [], ◌∷◌, true, false, ℕ, List, Option, All, IfErr, IfOk, IfSome, OnErr, OnOk, drop, length};
 ghost use Rattle.std.specs.List.{AllByRecursion};
 ghost use Rattle.std.specs.FinMap.{values};
-ghost use Rattle.rc_outside.specs.Files.{HoldsSameFiles, IsNoFile};
+ghost use Rattle.rc_outside.specs.Files.{Files, HoldsSameFiles, IsNoFile};
 ghost use Rattle.rc_outside.specs.Faults.{RisesIfFault};
 ghost use Rattle.rc_mutation.specs.declared.mutations.Mutation.{Mutation};
 ghost use Rattle.rc_mutation.specs.Source.{IsJoinOf, IsMutation};
@@ -28,7 +28,7 @@ use rc_outside::Store;
 use rc_position::PartKey;
 use rc_schema::Schema;
 use rc_stream::StreamErr;
-use rc_tables::{TableSet, read_joined};
+use rc_tables::{TableSet, lists_behind, read_joined};
 use rc_tfile::{WriteErr, plan_table, write_table};
 use std::alloc::{AllocError, Global};
 use std::marker::Model;
@@ -114,6 +114,15 @@ impl Folder {
         ensures asks { W.asks store.new ≤ W.asks store.old + 2 * listing key.now first.now }
     {
         read_joined(alloc, store, first, &self.schema, key)
+    }
+
+    /// Whether one of the tables behind the first ones, those that a reader kept (`tables`), lists a key. Where none does, the first ones say
+    /// of its partition what all say. Each directory is searched by halves; nothing is read, and no memory is taken.
+    pub fn lists_since(&self, first: &TableSet, key: &PartKey) -> bool
+        ensures listed { result ≡ true → 0 < listing key.now (drop (length first.now) self.now.infos) }
+        ensures none { result ≡ false → (files : Option Files) (m : State) (later : List TableInfo) (said : List Mutation) → IsOver files self.now.schema self.now.infos m → self.now.infos ≡ first.now ++ later → IsSaidByFirst m first.now key.now said → IsSaid m key.now said }
+    {
+        lists_behind(&self.tables, first, key)
     }
 
     /// The tables that the folder has now, shared. Tables are only added, so these stay the first ones: who keeps them can read what they

@@ -7,5 +7,6 @@ pub mod Numbered
 pub mod Places
 pub mod Searching
 pub mod Settling
+pub mod Silent
 pub mod Spans
 pub mod Spelled

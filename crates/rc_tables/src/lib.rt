@@ -10,5 +10,5 @@ mod rebuilding;
 mod sets;
 
 pub use lazy::TableFrags;
-pub use reading::read_joined;
+pub use reading::{lists_behind, read_joined};
 pub use sets::TableSet;

@@ -1,16 +1,17 @@
 //! A partition read from all tables of a set.
 
-ghost use Rattle.std.specs.Prelude.{◌≡◌, ◌≢◌, ◌≤◌, ◌<◌, ◌+◌, ◌*◌, [], ◌∷◌, ◌++◌, All, ℕ, IfErr, IfOk, IfSome, IfNone, IsTrue, List, length, map, OnOk};
+ghost use Rattle.std.specs.Prelude.{◌≡◌, ◌≢◌, ◌≤◌, ◌<◌, ◌+◌, ◌*◌, [], ◌∷◌, ◌++◌, true, false, All, ℕ, IfErr, IfOk, IfSome, IfNone, IsTrue, List, Option, drop, length, map, OnOk};
 ghost use Rattle.std.specs.FinMap.{is_sorted};
 ghost use Rattle.std.specs.List.{HoldsAt};
-ghost use Rattle.rc_outside.specs.Files.{HoldsSameFiles};
+ghost use Rattle.rc_outside.specs.Files.{Files, HoldsSameFiles};
 ghost use Rattle.rc_position.specs.Position.{bytes_cmp};
+ghost use Rattle.rc_schema.specs.SchemaValue.{SchemaValue};
 ghost use Rattle.rc_mutation.specs.declared.mutations.Mutation.{Mutation};
 ghost use Rattle.rc_mutation.specs.declared.mutations.Partition.{Partition};
 ghost use Rattle.rc_mutation.specs.Source.{IsJoinOf, IsMutation};
 ghost use Rattle.rc_stream.specs.Causes.{Caused};
 ghost use Rattle.rc_tables.specs.Located.{WhereTold};
-ghost use Rattle.rc_tables.specs.Tables.{AreHeld, changes_in, HoldsTables, IsDamageOf, IsJoinedAt, IsSomeJoin, listing};
+ghost use Rattle.rc_tables.specs.Tables.{AreHeld, changes_at, changes_in, HoldsTables, IsDamageOf, IsJoinedAt, IsSomeJoin, listing};
 ghost use Rattle.rc_tables.specs.calls.Tables.{JoinsSome};
 
 use crate::partition::read_partition;
@@ -89,6 +90,35 @@ fn join_table<W: Store>(
         Ok(()) => Ok(()),
         Err(_) => Err(StreamErr::NoMemory),
     }
+}
+
+/// Whether one of the tables of a set lists a key, of those behind as many as the first ones are; if none does they say nothing of it. Each
+/// directory is searched by halves, so one whose keys do not ascend, as no table's are, may list it unseen.
+pub fn lists_behind(set: &TableSet, first: &TableSet, key: &PartKey) -> bool
+    ensures listed { result ≡ true → 0 < listing key.now (drop (length first.now) set.now) }
+    ensures none { result ≡ false → (files : Option Files) (schema : SchemaValue) (tables : List (ℕ × List Partition)) → HoldsTables files schema (drop (length first.now) set.now) tables → changes_at key.now tables ≡ [] }
+{
+    let tables = set.tables();
+    let count = first.tables().len();
+    if tables.len() <= count {
+        return false;
+    }
+    let mut left = &tables[count..];
+    while let [info, rest @ ..] = left {
+        if lists(info.as_ref(), key) {
+            return true;
+        }
+        left = rest;
+    }
+    false
+}
+
+// Whether a table lists the key.
+fn lists(info: &TableInfo, key: &PartKey) -> bool
+    ensures listed { result ≡ true → listing key.now (info.now ∷ []) ≡ 1 }
+    ensures absent { result ≡ false → IsTrue (is_sorted bytes_cmp (map (λ r. (r.key, r.dir_off)) info.now.parts)) → All (λ r. r.key ≢ key.now) info.now.parts }
+{
+    find(info.parts.as_slice(), key).is_some()
 }
 
 // Where a table lists the key, if it does.
