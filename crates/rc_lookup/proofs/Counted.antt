@@ -44,6 +44,16 @@ module _ (S : ℕ) (m mid : Memory) (range : AreCountsInRange m.counts) (room : 
   room-leaves e low = let h = evicted-same e low in each-chain-stays room.went room.gone m mid room.evicted h.0 h.1
 
   -- a skipped fill is counted
+  -- a skip is counted, or is at the most that is counted
+  pub skip-counts : (n : Memory) → IsSkipCounted mid n → (m.counts.skipped < n.counts.skipped) ⊎ (most_counted ≤ n.counts.skipped)
+  skip-counts n skip =
+      let same : mid.counts.skipped ≡ m.counts.skipped = raised.same in
+      let skipped : n.counts.skipped ≡ raised_by 1 mid.counts.skipped = ap (λ (x : Memory). x.counts.skipped) skip in
+      elim (low_or mid.counts.skipped most_counted) [
+        | inl less ↦ inl (let more : raised_by 1 mid.counts.skipped ≡ mid.counts.skipped + 1 = raised-is 1 mid.counts.skipped (omega (arith, less)) in omega (arith, same, skipped, more))
+        | inr top ↦ inr (let low : most_counted ≤ raised_by 1 mid.counts.skipped = le-min (omega (arith, top)) (omega arith) in omega (arith, skipped, low))
+      ]
+
   pub skip-losses : (n : Memory) → IsSkipCounted mid n → (losses m < losses n) ⊎ (most_counted ≤ losses n)
   skip-losses n skip =
       let before = room-losses in

@@ -32,7 +32,7 @@ use Rattle.rc_row_cache.specs.Footprint.{AreInUse, HaveOneVersion, cache_snapsho
 use Rattle.rc_lookup.specs.Known.{KnowsStaticRow}
 use Rattle.rc_lookup.specs.Rest.{LeavesBut, LeavesRest}
 use Rattle.rc_lookup.specs.laws.Lost.{raised-low}
-use Rattle.rc_lookup.proofs.Counted.{room-range, skip-losses}
+use Rattle.rc_lookup.proofs.Counted.{room-range, skip-losses, skip-counts}
 use Rattle.rc_lookup.proofs.Kept.{here-or-beside}
 use Rattle.rc_lookup.proofs.Numbered.{chain-beside, chain-here, changed-beside, changed-now, none-is-none}
 use Rattle.rc_lookup.specs.laws.Rest.{rest-none, rest-same, rest-then, rest-told}
@@ -182,6 +182,11 @@ module _ (S : ℕ) (old new : Memory) (range : AreCountsInRange old.counts) (out
   kept-out-lost none =
       let same : losses new ≡ losses (counts_raised 0 1 0 out.0) = ap losses out.3 in
       elim (skip-losses S old out.0 range out.1 (counts_raised 0 1 0 out.0) refl) [ inl less ↦ omega (arith, less, same, none.0) | inr top ↦ omega (arith, top, same, none.1) ]
+
+  pub kept-out-skips : NoneLost old.counts.skipped new.counts.skipped → ⊥
+  kept-out-skips none =
+      let same : new.counts.skipped ≡ (counts_raised 0 1 0 out.0).counts.skipped = ap (λ (m : Memory). m.counts.skipped) out.3 in
+      elim (skip-counts S old out.0 range out.1 (counts_raised 0 1 0 out.0) refl) [ inl less ↦ omega (arith, less, same, none.0) | inr top ↦ omega (arith, top, same, none.1) ]
 
 -- ---- memory is refused
 

@@ -12,6 +12,7 @@ use Rattle.rc_chain.specs.declared.chains.Snap.{Snap}
 use Rattle.rc_cached.specs.Stands.{HasCacheSnapshot}
 use Rattle.rc_snapshots.specs.Seeing.{NothingIsLost}
 use Rattle.rc_snapshots.specs.laws.Seeing.{all-see}
+use Rattle.rc_stream.specs.Snapshot.{NoneLost}
 use Rattle.rc_row_cache.specs.Fillers.{losses}
 use Rattle.rc_row_cache.specs.Found.{entry_number}
 use Rattle.rc_row_cache.specs.Footprint.{AreInUse, HaveOneVersion, cache_snapshots, memtable_bytes}
@@ -157,6 +158,12 @@ pub never-none : (P : Type 0) (r : Result (Option Snap) AllocError) → IfOk r I
 never-none P (Ok None) h = absurd (cc)
 never-none P (Ok (Some s)) h = tt
 never-none P (Err e) h = tt
+
+-- nothing was counted as left out but by what handed out nothing
+pub skips-through : (r : Result (Option Snap) AllocError) (old mid new : Memory) → old.counts.skipped ≤ mid.counts.skipped → IfOk r (λ o. MatchOption o (LeavesRest mid new) (λ s. LeavesBut s mid new)) → IfOk r (λ o. IfNone o (NoneLost mid.counts.skipped new.counts.skipped → ⊥)) → IfOk r (λ o. IfNone o (NoneLost old.counts.skipped new.counts.skipped → ⊥))
+skips-through (Ok None) old mid new before rest f = λ none. let since = rest.counts.skipped in let same = none.0 in f (omega (arith, before, since, same), none.1)
+skips-through (Ok (Some s)) old mid new before rest f = tt
+skips-through (Err e) old mid new before rest f = tt
 
 -- what cannot be none is some
 pub is-held : (P : Type 0) (r : Result (Option Snap) AllocError) → IfOk r (λ o. IfNone o (P → ⊥)) → P → IfOk r IsSome

@@ -200,6 +200,7 @@ fn enter_read<const S: usize>(
     ensures apart { IfOk result (λ o. IfSome o (λ s. (pin : ℕ) → HasCacheSnapshot chains.old s.chain pin → ⊥)) }
     ensures apart_err { OnErr result ((id pin : ℕ) → entry_number cache.new.entries key.now ≡ Some id → HasCacheSnapshot chains.old id pin → ⊥) }
     ensures absent { IfOk result (λ o. IfNone o (entry_number cache.new.entries key.now ≡ None)) }
+    ensures skips { IfOk result (λ o. IfNone o (NoneLost chains.old.counts.skipped chains.new.counts.skipped → ⊥)) }
     ensures whole { IfOk result (λ o. MatchOption o (NoneLost (losses chains.old) (losses chains.new) → ⊥) (λ s. NoneLost (losses chains.old) (losses chains.new) → IsHeldWhole chains.new s)) }
     ensures loses { LosesWhereCrowded S 1 chains.old chains.new }
     ensures rest { IfOk result (λ o. MatchOption o (LeavesRest chains.old chains.new) (λ s. LeavesBut s chains.old chains.new)) }
@@ -249,6 +250,7 @@ pub fn take_populated<const S: usize>(
     ensures apart { IfOk result (λ o. IfSome o (λ s. (pin : ℕ) → HasCacheSnapshot chains.old s.chain pin → ⊥)) }
     ensures apart_err { OnErr result ((id pin : ℕ) → entry_number cache.new.entries key.now ≡ Some id → HasCacheSnapshot chains.old id pin → ⊥) }
     ensures absent { IfOk result (λ o. IfNone o (entry_number cache.new.entries key.now ≡ None)) }
+    ensures skips { IfOk result (λ o. IfNone o (NoneLost chains.old.counts.skipped chains.new.counts.skipped → ⊥)) }
     ensures loses { LosesWhereCrowded S 1 chains.old chains.new }
     ensures rest { IfOk result (λ o. MatchOption o (LeavesRest chains.old chains.new) (λ s. LeavesBut s chains.old chains.new)) }
     ensures rest_err { OnErr result (LeavesRest chains.old chains.new) }

@@ -124,10 +124,12 @@ pub refuted : (b : Bool) → b ≡ false → IsTrue b → ⊥
 refuted true h p = absurd cc
 refuted false h p = absurd cc
 
+-- the byte that stands first; none counts as 0
 abbrev first_byte : List ℕ → ℕ
 first_byte [] = 0
 first_byte (x ∷ xs) = x
 
+-- bytes that begin with one byte begin with no other
 pub other_byte : (a b : ℕ) (bytes : List ℕ) → (a ≡ b → ⊥) → (rest : List ℕ) × (bytes ≡ a ∷ rest) → (r : List ℕ) → bytes ≡ b ∷ r → ⊥
 other_byte a b bytes differ h r e = differ (ap first_byte (sym h.1 ∙ e))
 

@@ -22,7 +22,7 @@ use Rattle.rc_lookup.specs.Known.{KnowsStaticRow}
 use Rattle.rc_lookup.specs.Held.{IsHeldOf, IsHeldWhole}
 use Rattle.rc_lookup.specs.Rest.{LeavesBut, LeavesRest}
 use Rattle.rc_lookup.specs.calls.Entering.{IsFilledThrough, IsPartlyHeld}
-use Rattle.rc_lookup.proofs.Entered.{RoomLaws, entered-apart, entered-but, entered-fresh, entered-listed, entered-statics, kept-out-lost, kept-out-rest, refused-rest, rest-made}
+use Rattle.rc_lookup.proofs.Entered.{RoomLaws, entered-apart, entered-but, entered-fresh, entered-listed, entered-statics, kept-out-lost, kept-out-rest, kept-out-skips, refused-rest, rest-made}
 use Rattle.rc_lookup.proofs.Fills.{between}
 use Rattle.rc_lookup.proofs.Holding.{failed-done, if-held, match-held, never-none, on-failed}
 use Rattle.rc_lookup.proofs.Kept.{same-number, same-source}
@@ -369,6 +369,18 @@ returns-in-Ok-None-clause-whole g c = λ none.
     let es = c.enter.new.self.entries in
     let out : IsKeptOut S old mid = (subst (λ r. IfOk r (λ o. IfNone o ((entry_number es key ≡ None) × IsKeptOut S old mid))) (c.in-Ok-None.is ∙ ap Ok c.in-Ok-None.field-0-is) c.enter.ensures.kept_out).1 in
     kept-out-lost S old mid c.counts_in_range.ensures out none
+
+pub returns-in-Ok-None-clause-skips : goal.returns-in-Ok-None-clause-skips
+returns-in-Ok-None-clause-skips g c = λ none.
+    let S = g.row.S in
+    let old = c.args.chains.now in
+    let mid = c.enter.new.chains in
+    let es = c.enter.new.self.entries in
+    let out : IsKeptOut S old mid = (subst (λ r. IfOk r (λ o. IfNone o ((entry_number es c.args.key.now ≡ None) × IsKeptOut S old mid))) (c.in-Ok-None.is ∙ ap Ok c.in-Ok-None.field-0-is) c.enter.ensures.kept_out).1 in
+    kept-out-skips S old mid c.counts_in_range.ensures out none
+
+pub returns-in-Ok-Some-clause-skips : goal.returns-in-Ok-Some-clause-skips
+returns-in-Ok-Some-clause-skips g c = never-none (NoneLost c.args.chains.now.counts.skipped c.fill_held.new.chains.counts.skipped → ⊥) c.fill_held.result c.fill_held.ensures.some
 
 pub returns-in-Ok-None-clause-absent : goal.returns-in-Ok-None-clause-absent
 returns-in-Ok-None-clause-absent g c =

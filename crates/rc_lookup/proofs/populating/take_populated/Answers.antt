@@ -10,7 +10,7 @@ use Rattle.rc_lookup.specs.Held.{IsHeldOf, IsHeldWhole}
 use Rattle.rc_lookup.specs.Rest.{LeavesBut, LeavesRest}
 use Rattle.rc_lookup.specs.Staying.{IsEntryStill}
 use Rattle.rc_lookup.proofs.Fills.{between, on-also}
-use Rattle.rc_lookup.proofs.Holding.{held-is-known, if-held, match-also, on-failed, rest-lost, some-of-match}
+use Rattle.rc_lookup.proofs.Holding.{held-is-known, if-held, match-also, on-failed, rest-lost, some-of-match, skips-through}
 use Rattle.rc_lookup.specs.laws.Rest.{but-after, rest-then}
 use Rattle.rc_lookup.specs.laws.Staying.{entry-then}
 use Rattle.rc_lookup.proofs.populating.take_populated.Goals as goal
@@ -141,3 +141,6 @@ returns-clause-stays g c =
 
 pub returns-clause-loses : goal.returns-clause-loses
 returns-clause-loses g c = loses-after g.row.S 1 c.args.chains.now c.forget_entry.new.chains c.enter_read.new.chains c.forget_entry.ensures.loses c.enter_read.ensures.loses
+
+pub returns-clause-skips : goal.returns-clause-skips
+returns-clause-skips g c = skips-through c.enter_read.result c.args.chains.now c.forget_entry.new.chains c.enter_read.new.chains c.forget_entry.ensures.rest.counts.skipped c.enter_read.ensures.rest c.enter_read.ensures.skips
