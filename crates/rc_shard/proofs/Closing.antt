@@ -41,6 +41,7 @@ use Rattle.rc_shard.specs.Stands.{AreFor, Stands}
 use Rattle.rc_shard.specs.calls.Opened.{AreHeldReleased}
 use Rattle.rc_shard.specs.calls.Staying.{Staying}
 use Rattle.rc_shard.proofs.Looking.{Beside}
+use Rattle.rc_shard.proofs.OfItsKey.{of-fewer}
 use Rattle.rc_shard.proofs.Places.{IsPlace, in-range}
 use Rattle.rc_shard.proofs.Served.{beside-still, cached-beside, cached-removed, each-later, fewer-two, pairs-rest, removed-served, share-back}
 use Rattle.rc_shard.proofs.Standing.{opened-reading, sound-less, stands-cached}
@@ -199,5 +200,6 @@ module _ (lines : PartReader → Memory → List Mutation → List OutLine → T
             omega (arith, a, b, c, sum, e));
         served = served;
         two = fewer-two id at k.readers.items p s.two;
+        apart = of-fewer k.cache.entries k.readers.items at s.apart;
       } in
       (new, rw (f.found) (refl, refl), moved lines files k k' k'.unstored (remove k.readers.items at) new folder refl cache segs items made)

@@ -1,6 +1,6 @@
 -- What lies below the row cache once what was read of a partition is in it.
-use Rattle.std.proofs.Common.{◌≡◌, ◌≤◌, ◌++◌, ℕ, Result, Ok, Err, IfOk, true, false, cond, nat_eq, List, [], ◌∷◌, Option, Some, None, All, refl, sym, ap, ◌∙◌, subst, eq-eqb, ne_eqb, arith}
-use Rattle.std.specs.Prelude.{⊤, IfErr, MatchOption, length, take}
+use Rattle.std.proofs.Common.{◌≡◌, ◌≤◌, ℕ, Result, Ok, Err, IfOk, true, false, cond, nat_eq, List, [], ◌∷◌, Option, Some, None, All, refl, sym, ap, ◌∙◌, subst, eq-eqb, ne_eqb, arith}
+use Rattle.std.specs.Prelude.{IfErr, IfSome, IsSome}
 use Rattle.std.specs.List.{AllByRecursion}
 use Rattle.std.specs.Ordering.{eq_by_cmp}
 use Rattle.std.proofs.lemmas.List.Elements.{All-cons}
@@ -14,7 +14,6 @@ use Rattle.rc_schema.specs.SchemaValue.{SchemaValue}
 use Rattle.rc_writes.specs.Allowed.{ChangeFits}
 use Rattle.rc_mutation.specs.declared.mutations.Mutation.{Mutation}
 use Rattle.rc_mutation.specs.Source.{IsJoinOf, IsMutation, SameSource}
-use Rattle.rc_mutation.specs.laws.Sources.{IsJoinOf-same}
 use Rattle.rc_stream.specs.Snapshot.{NoneLost}
 use Rattle.rc_lookup.specs.Fillers.{losses}
 use Rattle.rc_query.specs.declared.lines.OutLine.{OutLine}
@@ -29,29 +28,24 @@ use Rattle.rc_lookup.specs.Looked.{IsCacheOver}
 use Rattle.rc_lookup.specs.Memtables.{in_chains}
 use Rattle.rc_lookup.specs.Saying.{Below, CacheSays, SaysBelow}
 use Rattle.rc_paging.specs.declared.forms.PartReader.{PartReader}
-use Rattle.rc_paging.specs.declared.forms.PartReader.TheVariants.{Cached, Past}
-use Rattle.rc_paging.specs.Forms.{ByForm, held_by}
 use Rattle.rc_tfile.specs.declared.info.TableInfo.{TableInfo}
 use Rattle.rc_tables.specs.Located.{SaysOf}
-use Rattle.rc_tables.specs.Tables.{IsDamageOf, IsSomeJoin, changes_at, listing}
-use Rattle.rc_machine.specs.State.{Reader, State}
-use Rattle.rc_machine.specs.Steps.{IsSaid, MaySay}
-use Rattle.rc_folder.specs.Tabled.{IsSaidByFirst}
+use Rattle.rc_tables.specs.Tables.{IsDamageOf, IsSomeJoin}
+use Rattle.rc_machine.specs.State.{State}
+use Rattle.rc_machine.specs.Steps.{IsSaid}
 use Rattle.rc_shard.specs.declared.readers.Source.{Source}
 use Rattle.rc_shard.specs.declared.readers.Source.TheVariants.{Read}
 use Rattle.rc_shard.specs.declared.shard.Shard.{Shard}
 use Rattle.rc_shard.specs.Cached.{HaveCached, IsJoinSaid}
 use Rattle.rc_shard.specs.declared.readers.PartitionReader.{PartitionReader}
-use Rattle.rc_shard.specs.Filling.{HoldsCached}
 use Rattle.rc_shard.specs.Knowing.{IsCachedWhole}
 use Rattle.rc_shard.specs.calls.Reading.{IsPutInPlace}
-use Rattle.rc_shard.specs.Readers.{IsCachedThere, IsReadOver, WasOpened, cached_of, lies_below, number_of_snaps}
+use Rattle.rc_shard.specs.Readers.{IsCachedThere, IsOfItsKey, cached_of, number_of_snaps}
 use Rattle.rc_shard.specs.Stands.{AreFor, Stands}
 use Rattle.rc_shard.specs.calls.Looking.{source_snap, source_taken}
 use Rattle.rc_shard.specs.calls.Staying.{Staying}
 use Rattle.rc_shard.proofs.Forgotten.{key-is, key-itself}
 use Rattle.rc_shard.proofs.Looking.{Beside, IsRest, over-of, used-for}
-use Rattle.rc_shard.proofs.Listed.{fewer-listed}
 use Rattle.rc_shard.proofs.Numbered.{either}
 
 -- what lies below chains, but that what was read lies below that of an entry, where there is one
@@ -181,61 +175,26 @@ module _ (lines : PartReader → Memory → List Mutation → List OutLine → T
       let cached = cached-filled schema key read k.cache.entries b k.unstored.chains n m said is of join are others s.cached more fits rest told in
       used-for lines stays beside files k.folder k.unstored n k.cache.entries b k.readers.items k.segments more m rest cached s
       (λ id pin there. lies-apart schema key read k.cache.entries b k.unstored.chains n m said is of join are others s.cached id (apart id pin there))
+      (λ id pin there q found. either (entry_number k.cache.entries q ≡ Some id) (eq_by_cmp bytes_cmp key q)
+      (λ same. absurd (apart id pin there (ap (entry_number b) (key-is key q same) ∙ found)))
+      (λ off. others q id found (λ e. let t : false ≡ true = sym off ∙ ap (eq_by_cmp bytes_cmp key) e ∙ key-itself key in absurd (cc))))
 
--- ---- what was read of the first tables, where the row cache has what the reader holds
-
--- more tables may say what fewer may
-more-say : (schema : SchemaValue) (few many : ℕ) (said : List Mutation) → few ≤ many → MaySay schema few said → MaySay schema many said
-more-say schema few many said less may = let low = may.0 in (omega (arith, low, less), may.1)
-
-below-same : (changes : List Mutation) (a b : Mutation) → changes ≡ a ∷ [] → changes ≡ b ∷ [] → a ≡ b
-below-same changes a b e f = one-of-one (sym e ∙ f)
-  where
-    one-of-one : a ∷ [] ≡ b ∷ [] → a ≡ b
-    one-of-one e = cc e
-
--- what lies below the entry and the reader's join determine what was read
-said-of : (m : State) (key : List ℕ) (first later : List TableInfo) (below told said : List Mutation) (join read : Mutation) → m.infos ≡ first ++ later → IsSaidByFirst m first key told → IsJoinSaid m key below → below ≡ join ∷ [] → IsMutation join → IsJoinOf join told → IsMutation read → IsSaidByFirst m first key said → IsJoinOf read said →
-    (all : List Mutation) × IsSaid m key all × IsJoinOf read all
-said-of m key first later below told said join read are by j is of join_told mutation now joined = by_files m.files refl where
-  by_files : (o : Option Files) → m.files ≡ o → (all : List Mutation) × IsSaid m key all × IsJoinOf read all
-  by_files None e = (
-    said,
-    subst (λ (o : Option Files). MatchOption o (MaySay m.schema (listing key m.infos) said) (λ files. said ≡ changes_at key m.tables)) (sym e)
-        (more-say m.schema (listing key first) (listing key m.infos) said (fewer-listed key first later m.infos are) (subst (λ (o : Option Files). MatchOption o (MaySay m.schema (listing key first) said) (λ files. said ≡ changes_at key (take (length first) m.tables))) e now)),
-    joined,
-  )
-  by_files (Some files) e =
-      let was : told ≡ changes_at key (take (length first) m.tables) = subst (λ (o : Option Files). MatchOption o (MaySay m.schema (listing key first) told) (λ files. told ≡ changes_at key (take (length first) m.tables))) e by in
-      let here : said ≡ changes_at key (take (length first) m.tables) = subst (λ (o : Option Files). MatchOption o (MaySay m.schema (listing key first) said) (λ files. said ≡ changes_at key (take (length first) m.tables))) e now in
-      let same : join ≡ read = IsJoinOf-same join read told of mutation join_told (subst (IsJoinOf read) (here ∙ sym was) joined) in
-      let entry : j.join ≡ read = below-same below j.join join j.is is ∙ same in
-      (j.said, j.of_tables, subst (λ (x : Mutation). IsJoinOf x j.said) entry j.joined)
-
-pub said-by-entry : (k : Shard) (m : State) (d : PartitionReader) (r : Reader) (holds : HoldsCached k.cache.entries d) (read : Mutation) (said : List Mutation) (h : HaveCached k.folder.schema k.cache.entries k.unstored.chains m) → d.key ≡ r.key →
-    ByForm (λ c. IsReadOver m.schema (lies_below h.below c.held.cached) k.unstored.chains c r) (λ _. ⊤) d.reader → WasOpened m d.tables r → IsMutation read → IsSaidByFirst m d.tables d.key said → IsJoinOf read said → (all : List Mutation) × IsSaid m d.key all × IsJoinOf read all
-said-by-entry k m d r holds read said h key over opened mutation by joined = by_form d.reader refl over
-  where
-    by_form : (p : PartReader) → d.reader ≡ p → ByForm (λ c. IsReadOver m.schema (lies_below h.below c.held.cached) k.unstored.chains c r) (λ _. ⊤) p → (all : List Mutation) × IsSaid m d.key all × IsJoinOf read all
-    by_form (Past o) e over = absurd (none-held (sym (ap (λ (p : PartReader). (held_by p).cached) e) ∙ holds.held))
-      where
-        none-held : None ≡ Some holds.snap → ⊥
-        none-held e = cc e
-    by_form (Cached o) e over =
-        let snap : o.held.cached ≡ Some holds.snap = sym (ap (λ (p : PartReader). (held_by p).cached) e) ∙ holds.held in
-        let lies : lies_below h.below o.held.cached ≡ h.below holds.snap.chain = ap (lies_below h.below) snap in
-        said-of m d.key d.tables opened.later (h.below holds.snap.chain) r.said said over.join read opened.are (subst (λ (q : List ℕ). IsSaidByFirst m d.tables q r.said) (sym key) opened.said)
-        (h.of_tables d.key holds.snap.chain holds.entry) (sym lies ∙ over.is) over.mutation over.joined mutation by joined
+-- the snapshot that there is
+pub some-held : (o : Option Snap) → IsSome o → (s : Snap) × (o ≡ Some s)
+some-held None h = absurd (cc)
+some-held (Some s) h = (s, refl)
 
 -- no entry has the chain that the reader holds a snapshot of, once what was read is in its place
-pub put-in-place : (k new : Shard) (d : PartitionReader) (holds : HoldsCached k.cache.entries d) → AreEntries k.cache.entries k.unstored.chains → IsCachedThere k.unstored.chains (cached_of d) → (NoneLost (losses k.unstored.chains) (losses new.unstored.chains) → IsCachedWhole new d.key) →
-    ((id pin : ℕ) → entry_number new.cache.entries d.key ≡ Some id → HasCacheSnapshot k.unstored.chains id pin → ⊥) → ((q : List ℕ) (id : ℕ) → entry_number new.cache.entries q ≡ Some id → (q ≡ d.key → ⊥) → entry_number k.cache.entries q ≡ Some id) → IsPutInPlace d k new
-put-in-place k new d holds are there whole apart others = record {
-  holds = holds;
+pub put-in-place : (k new : Shard) (d : ℕ × PartitionReader) (snap : Snap) → cached_of d.1 ≡ Some snap → IsOfItsKey k.cache.entries d → IsCachedThere k.unstored.chains (cached_of d.1) → (NoneLost (losses k.unstored.chains) (losses new.unstored.chains) → IsCachedWhole new d.1.key) →
+    ((id pin : ℕ) → entry_number new.cache.entries d.1.key ≡ Some id → HasCacheSnapshot k.unstored.chains id pin → ⊥) → ((q : List ℕ) (id : ℕ) → entry_number new.cache.entries q ≡ Some id → (q ≡ d.1.key → ⊥) → entry_number k.cache.entries q ≡ Some id) → IsPutInPlace d.1 k new
+put-in-place k new d snap held own there whole apart others = record {
+  snap = snap;
+  held = held;
   whole = whole;
-  apart = λ q found. either ⊥ (eq_by_cmp bytes_cmp d.key q)
-      (λ same. apart holds.snap.chain holds.snap.pin (ap (entry_number new.cache.entries) (key-is d.key q same) ∙ found) (subst (IsCachedThere k.unstored.chains) holds.held there))
-      (λ off. (
-      let ne : q ≡ d.key → ⊥ = λ e. let t : false ≡ true = sym off ∙ ap (eq_by_cmp bytes_cmp d.key) e ∙ key-itself d.key in absurd (cc) in
-      ne (are.apart q d.key holds.snap.chain (others q holds.snap.chain found ne) holds.entry)));
+  apart = λ q found. either ⊥ (eq_by_cmp bytes_cmp d.1.key q)
+      (λ same. apart snap.chain snap.pin (ap (entry_number new.cache.entries) (key-is d.1.key q same) ∙ found) (subst (IsCachedThere k.unstored.chains) held there))
+      (λ off.
+      let ne : q ≡ d.1.key → ⊥ = λ e. (let t : false ≡ true = sym off ∙ ap (eq_by_cmp bytes_cmp d.1.key) e ∙ key-itself d.1.key in absurd (cc)) in
+      let of : (r : List ℕ) → entry_number k.cache.entries r ≡ Some snap.chain → r ≡ d.1.key = subst (λ (o : Option Snap). IfSome o (λ s. (r : List ℕ) → entry_number k.cache.entries r ≡ Some s.chain → r ≡ d.1.key)) held own in
+      ne (of q (others q snap.chain found ne)));
 }

@@ -39,6 +39,7 @@ use Rattle.rc_shard.specs.Readers.{cached_readers}
 use Rattle.rc_shard.specs.Stands.{AreFor, AreSound, HaveUnstored, Stands}
 use Rattle.rc_shard.specs.calls.Staying.{Staying}
 use Rattle.rc_shard.specs.calls.Storing.{IsFlushAnswered, IsTableStored, KeepsUnstored}
+use Rattle.rc_shard.proofs.OfItsKey.{fewer-entries}
 use Rattle.rc_shard.proofs.Served.{all-served}
 use Rattle.rc_lookup.specs.RowCache.{RowCache}
 use Rattle.rc_shard.specs.Cached.{HaveCached}
@@ -137,6 +138,7 @@ module _ (lines : PartReader → Memory → List Mutation → List OutLine → T
         served = all-served lines stays m (record m { sealed = sealing m }) (opened-sealed m (sealing m)) k.unstored.chains k'.unstored.chains s.cached.below (stands-cached lines stays k.folder.schema k.cache.entries k'.unstored.chains (record m { sealed = sealing m }) cached) k.readers.items m.readers
             (subst (AllStillSee k.unstored.chains) (sym chains) (all-see k.unstored.chains k.unstored.chains (λ t on. record { pin = on; versions = refl; kind = refl }))) (λ id pin h. subst (λ (x : Memory). HasCacheSnapshot x id pin) (sym chains) h) s.served;
         two = s.two;
+        apart = s.apart;
       } in
       moved lines files k k' k'.unstored k.readers.items (record m { sealed = sealing m }) folder refl cache segs items sealed
 
@@ -199,6 +201,7 @@ module _ (lines : PartReader → Memory → List Mutation → List OutLine → T
               taken = (let a = t.taken in let b = i.cache.snapshots.number in omega (arith, a, b));
               served = all-served lines stays (record m { sealed = sealing m }) (without_sealed new) (opened-more files k.folder.schema k.folder.infos m i.parts s.over) l.unstored.chains k'.unstored.chains t.cached.below (stands-cached lines stays l.folder.schema k'.cache.entries k'.unstored.chains (without_sealed new) plain) l.readers.items m.readers i.seen i.cache.snapshots.each t.served;
               two = t.two;
+              apart = fewer-entries l.cache.entries k'.cache.entries (λ key id found. (i.cache.found (record { are = t.cached.are; one = t.cached.one; used = t.cached.used }) key id found).0) l.readers.items t.apart;
             } in
             subst (λ os. AreFor lines files' k'.folder k'.unstored k'.cache.entries os k'.segments 0 (without_sealed new)) (sym items) (subst (λ x. AreFor lines files' k'.folder k'.unstored k'.cache.entries l.readers.items x 0 (without_sealed new)) (sym segs) stored)
 

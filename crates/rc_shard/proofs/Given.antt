@@ -1,5 +1,5 @@
 -- What a reader gave lines, and what that left, from its place on.
-use Rattle.std.proofs.Common.{◌≡◌, ◌==◌, ◌≤◌, ◌+◌, ◌*◌, ℕ, List, Option, Some, None, inl, inr, length, position, get_or, set, refl, sym, ap, subst, ◌∙◌, arith}
+use Rattle.std.proofs.Common.{◌≡◌, ◌==◌, ◌≤◌, ◌+◌, ◌*◌, ℕ, List, Option, Some, None, inl, inr, drop, length, position, get_or, set, refl, sym, ap, subst, ◌∙◌, arith}
 use Rattle.std.specs.Prelude.{Bool, IfSome, IsSomeAnd}
 use Rattle.std.specs.Option.{option_map_or}
 use Rattle.std.specs.Map.{lookup}
@@ -35,7 +35,7 @@ use Rattle.rc_machine.specs.Serving.{Stops, Takes}
 use Rattle.rc_machine.specs.Steps.{reader_past}
 use Rattle.rc_shard.specs.declared.readers.PartitionReader.{PartitionReader}
 use Rattle.rc_shard.specs.declared.shard.Shard.{Shard}
-use Rattle.rc_shard.specs.Filling.{HoldsCached, IsFilledAsTold, IsHeldByReader}
+use Rattle.rc_shard.specs.Filling.{IsCachedByReader, IsFilledAsTold, IsHeldByReader, MayRefill}
 use Rattle.rc_shard.specs.Knowing.{IsCachedWhere, IsCachedWhole, IsKnownStill, IsPartitionListed, IsPastNow, IsReaderTouched, IsTouchedAsGiven, StaysKnown}
 use Rattle.rc_shard.specs.Readers.{cached_of}
 use Rattle.rc_shard.specs.Stands.{Stands}
@@ -46,7 +46,7 @@ use Rattle.rc_shard.specs.calls.Reading.{IsSparedPast, IsBesideChains, IsGoneOn,
 use Rattle.rc_shard.proofs.Caching.{leaves-itself}
 use Rattle.rc_shard.proofs.Closing.{lost-past, past-rest}
 use Rattle.rc_shard.proofs.Known.{AreGone, back-known, known-then, known-where}
-use Rattle.rc_shard.proofs.Listed.{fewer-listed}
+use Rattle.rc_folder.specs.laws.Listed.{fewer_listed}
 use Rattle.rc_shard.proofs.Places.{IsPlace, one-of, own-place, place-of, position-set, set-place}
 use Rattle.rc_shard.proofs.Rereading.{reader-at, same-some, touched-as-given}
 use Rattle.rc_shard.proofs.Taking.{found-at, to-files}
@@ -109,12 +109,13 @@ given-of k q k' id at d lines p here b g touches left =
 pub record IsUntold (k k' : Shard) : Type 0 where
   pub cache : k'.cache ≡ k.cache
   pub unstored : k'.unstored ≡ k.unstored
+  pub folder : k'.folder ≡ k.folder
   pub answered : k'.answered ≡ k.answered
   pub segments : k'.segments ≡ k.segments
   pub asked : k'.asked ≡ k.asked
 
 pub untold-of : (at : ℕ) (k k' : Shard) → IsPagedBeside at k k' → IsUntold k k'
-untold-of at k k' b = record { cache = b.cache; unstored = b.unstored; answered = b.answered; segments = b.segments; asked = b.asked }
+untold-of at k k' b = record { cache = b.cache; unstored = b.unstored; folder = b.folder; answered = b.answered; segments = b.segments; asked = b.asked }
 
 pub untold-counts : (k k' : Shard) → IsUntold k k' → CountsStay k k'
 untold-counts k k' u = record { answered = u.answered; segments = u.segments; asked = u.asked; none_fell = counts-same k.unstored.chains k'.unstored.chains (ap (λ v. v.chains.counts) u.unstored) (ap (λ v. v.chains.region.moved) u.unstored) }
@@ -139,7 +140,7 @@ pub untold-known : (k k' : Shard) → IsUntold k k' → (key : List ℕ) → IsK
 untold-known k k' u key = known-where k k' key (λ P on. subst (λ v. IsCachedWhere P (record k' { unstored = v }) key) (sym u.unstored) (subst (λ c. IsCachedWhere P (record k' { cache = c; unstored = k.unstored }) key) (sym u.cache) on))
 
 pub untold-back : (k k' : Shard) → IsUntold k k' → (key : List ℕ) → IsKnownStill key k' k
-untold-back k k' u key = untold-known k' k (record { cache = sym u.cache; unstored = sym u.unstored; answered = sym u.answered; segments = sym u.segments; asked = sym u.asked }) key
+untold-back k k' u key = untold-known k' k (record { cache = sym u.cache; unstored = sym u.unstored; folder = sym u.folder; answered = sym u.answered; segments = sym u.segments; asked = sym u.asked }) key
 
 listed-in : (k k' : Shard) (key : List ℕ) → IsUntold k k' → IsPartitionListed k key → IsPartitionListed k' key
 listed-in k k' key u h = subst (λ v. IsPartitionListed (record k' { unstored = v }) key) (sym u.unstored) (subst (λ c. IsPartitionListed (record k' { cache = c; unstored = k.unstored }) key) (sym u.cache) h)
@@ -218,24 +219,25 @@ filled-given id count at d lines more reply n k k' p here is over = subst (λ (r
     absurd (elim how [ inl less ↦ omega (arith, less) | inr past ↦ never-holds d.1.reader holds.snap (sym (ap (λ (x : PartitionReader). cached_of x) same) ∙ holds.held) (over past) ]))
 
 -- where something was, the row cache knows all of the partition
-pub filled-past : (id count at : ℕ) (d : ℕ × PartitionReader) (x : PartitionReader) (reply : Reply) (before now : ℕ) (k q k' : Shard) → IsPlace id k.readers.items at → get_or k.readers.items at d ≡ d → IsUntold k q → x.key ≡ d.1.key → cached_of x ≡ cached_of d.1 → IsPutPast x reply q k' → IsFilledAsTold (Read id count) reply before now k k'
-filled-past id count at d x replies.Nothing before now k q k' p here u key snap put = tt
-filled-past id count at d x replies.Fine before now k q k' p here u key snap put = tt
-filled-past id count at d x replies.Going before now k q k' p here u key snap put = tt
-filled-past id count at d x replies.Done before now k q k' p here u key snap put = tt
-filled-past id count at d x (replies.Stats f) before now k q k' p here u key snap put = tt
-filled-past id count at d x (replies.Refused r) before now k q k' p here u key snap put = tt
-filled-past id count at d x (replies.Given lines more) before now k q k' p here u key snap put = λ none o found holds how.
+pub filled-past : (id count at : ℕ) (d : ℕ × PartitionReader) (x : PartitionReader) (reply : Reply) (before now : ℕ) (k q k' : Shard) → IsPlace id k.readers.items at → get_or k.readers.items at d ≡ d → IsUntold k q → x.key ≡ d.1.key → x.tables ≡ d.1.tables → cached_of x ≡ cached_of d.1 → IsPutPast x reply q k' → IsFilledAsTold (Read id count) reply before now k k'
+filled-past id count at d x replies.Nothing before now k q k' p here u key tables snap put = tt
+filled-past id count at d x replies.Fine before now k q k' p here u key tables snap put = tt
+filled-past id count at d x replies.Going before now k q k' p here u key tables snap put = tt
+filled-past id count at d x replies.Done before now k q k' p here u key tables snap put = tt
+filled-past id count at d x (replies.Stats f) before now k q k' p here u key tables snap put = tt
+filled-past id count at d x (replies.Refused r) before now k q k' p here u key tables snap put = tt
+filled-past id count at d x (replies.Given lines more) before now k q k' p here u key tables snap put = λ none o found may how.
     let same : o ≡ d.1 = same-some o d.1 _ found (reader-at id at d k.readers.items p here) in
     let own : x.key ≡ o.key = key ∙ sym (ap (λ (y : PartitionReader). y.key) same) in
-    let holds-now : HoldsCached q.cache.entries x = record {
-      snap = holds.snap;
-      held = snap ∙ sym (ap (λ (y : PartitionReader). cached_of y) same) ∙ holds.held;
-      entry = ap (λ c. entry_number c.entries x.key) u.cache ∙ ap (entry_number k.cache.entries) own ∙ holds.entry;
+    let first : x.tables ≡ o.tables = tables ∙ sym (ap (λ (y : PartitionReader). y.tables) same) in
+    let may-now : MayRefill q.folder.infos x = record {
+      snap = may.snap;
+      held = snap ∙ sym (ap (λ (y : PartitionReader). cached_of y) same) ∙ may.held;
+      latest = (λ i. listing (own i) (drop (length (first i)) (u.folder i).infos)) ∙ may.latest;
     } in
-    subst (λ (w : List ℕ). IsCachedWhole k' w) own (put (subst (λ v. NoneLost (losses v.chains) (losses k'.unstored.chains)) (sym u.unstored) none) holds-now)
+    subst (λ (w : List ℕ). IsCachedWhole k' w) own (put (subst (λ v. NoneLost (losses v.chains) (losses k'.unstored.chains)) (sym u.unstored) none) may-now)
 
-pub put-past : (o : PartitionReader) (reply : Reply) (k k' : Shard) → (NoneLost (losses k.unstored.chains) (losses k'.unstored.chains) → HoldsCached k.cache.entries o → IsCachedWhole k' o.key) → IsPutPast o reply k k'
+pub put-past : (o : PartitionReader) (reply : Reply) (k k' : Shard) → (NoneLost (losses k.unstored.chains) (losses k'.unstored.chains) → MayRefill k.folder.infos o → IsCachedWhole k' o.key) → IsPutPast o reply k k'
 put-past o replies.Nothing k k' h = tt
 put-past o replies.Fine k k' h = tt
 put-past o replies.Going k k' h = tt
@@ -249,15 +251,19 @@ module _ (before now : ℕ) (k l : Shard) (answered : Answered) where
   abbrev counted : Shard
   counted = record l { answered = answered }
 
+  cached-counted : (id : ℕ) (key : List ℕ) → IsCachedByReader id key l → IsCachedByReader id key counted
+  cached-counted id key h = record { reader = h.reader; found = h.found; of_key = h.of_key; holds = h.holds; latest = h.latest }
+
   held-counted : (id : ℕ) (key : List ℕ) → IsHeldByReader id key l → IsHeldByReader id key counted
-  held-counted id key h = record { reader = h.reader; found = h.found; of_key = h.of_key; holds = h.holds; head = h.head }
+  unfolding cached-counted
+  held-counted id key h = record { reads = cached-counted id key h.reads; head = h.head }
 
   pub filled-counted : (command : Command) (reply : Reply) → IsFilledAsTold command reply before now k l → IsFilledAsTold command reply before now k counted
   filled-counted commands.Nothing reply h = tt
   filled-counted (commands.SetSchema schema) reply h = tt
   filled-counted (commands.Put w) reply h = tt
   filled-counted (commands.OpenRead id key slice) replies.Nothing h = tt
-  filled-counted (commands.OpenRead id key slice) replies.Fine h = λ none. let f = h none in record { held = held-counted id key f.held; whole = f.whole }
+  filled-counted (commands.OpenRead id key slice) replies.Fine h = ((λ none. cached-counted id key (h.0 none)), (λ none. let f = h.1 none in record { held = held-counted id key f.held; whole = f.whole }))
   filled-counted (commands.OpenRead id key slice) replies.Going h = tt
   filled-counted (commands.OpenRead id key slice) replies.Done h = tt
   filled-counted (commands.OpenRead id key slice) (replies.Stats f) h = tt
@@ -282,13 +288,13 @@ module _ (before now : ℕ) (k l : Shard) (answered : Answered) where
 -- a partition is apart from the reader's chain behind the filling, where something of it could be evicted before
 pub apart-refilled : (o : PartitionReader) (k f : Shard) (key : List ℕ) → IsRefilled o k f → IsPartitionListed k key → IsSparedPast (cached_of o) f key
 apart-refilled o k f key (inl same) listed = inl (subst (λ (x : Shard). IsPartitionListed x key) (sym same.1) listed)
-apart-refilled o k f key (inr put) listed = inr (subst (λ (s : Option Snap). IfSome s (λ t. entry_number f.cache.entries key ≡ Some t.chain → ⊥)) (sym put.holds.held) (put.apart key))
+apart-refilled o k f key (inr put) listed = inr (subst (λ (s : Option Snap). IfSome s (λ t. entry_number f.cache.entries key ≡ Some t.chain → ⊥)) (sym put.held) (put.apart key))
 
 -- what was filled is known once the reader went past the row cache
-pub whole-past : (o : PartitionReader) (k f k' : Shard) → IsRefilled o k f → HoldsCached k.cache.entries o → NoneLost (losses k.unstored.chains) (losses f.unstored.chains) → (IsSparedPast (cached_of o) f o.key → IsKnownStill o.key f k') → IsCachedWhole k' o.key
+pub whole-past : (o : PartitionReader) (k f k' : Shard) → IsRefilled o k f → MayRefill k.folder.infos o → NoneLost (losses k.unstored.chains) (losses f.unstored.chains) → (IsSparedPast (cached_of o) f o.key → IsKnownStill o.key f k') → IsCachedWhole k' o.key
 whole-past o k f k' (inl same) holds none stays = absurd (same.0 holds)
 whole-past o k f k' (inr put) holds none stays =
-    (stays (inr (subst (λ (s : Option Snap). IfSome s (λ t. entry_number f.cache.entries o.key ≡ Some t.chain → ⊥)) (sym put.holds.held) (put.apart o.key)))).whole (put.whole none)
+    (stays (inr (subst (λ (s : Option Snap). IfSome s (λ t. entry_number f.cache.entries o.key ≡ Some t.chain → ⊥)) (sym put.held) (put.apart o.key)))).whole (put.whole none)
 
 -- ---- how often the store is asked
 
@@ -299,7 +305,7 @@ module _ (lines : PartReader → Memory → List Mutation → List OutLine → T
   asks-within files k m id at d before after p here s asked =
       let f = found-at lines files k m id at d s p here in
       let o = f.served.opened in
-      let fewer : listing d.1.key d.1.tables ≤ listing d.1.key m.infos = fewer-listed d.1.key d.1.tables o.later m.infos o.are in
+      let fewer : listing d.1.key d.1.tables ≤ listing d.1.key m.infos = fewer_listed d.1.key d.1.tables o.later m.infos o.are in
       let within : after ≤ before + 2 * listing d.1.key m.infos = omega (arith, asked, fewer) in
       subst (λ (r : Option Reader). after ≤ before + option_map_or (λ (q : Reader). 2 * listing q.key m.infos) r 0) (sym f.found) (subst (λ (key : List ℕ). after ≤ before + 2 * listing key m.infos) f.served.key within)
 

@@ -39,6 +39,7 @@ use Rattle.rc_shard.specs.calls.Resaying.{IsJoinBelow, IsReadAnew, IsToldAnew}
 use Rattle.rc_shard.specs.calls.Staying.{Staying}
 use Rattle.rc_shard.proofs.Closing.{past-rest, writes-past}
 use Rattle.rc_shard.proofs.Looking.{Beside}
+use Rattle.rc_shard.proofs.OfItsKey.{of-none, of-set}
 use Rattle.rc_shard.proofs.Places.{IsPlace, in-range}
 use Rattle.rc_shard.proofs.Served.{cached-set, gone-served, gone-two}
 use Rattle.rc_shard.proofs.Standing.{opened-reading, sound-less, stands-cached}
@@ -178,5 +179,6 @@ module _ (lines : PartReader → Memory → List Mutation → List OutLine → T
               omega (arith, a, b, sum, e, z));
           served = served;
           two = pairs;
+          apart = of-set k.cache.entries k.readers.items at x (of-none k.cache.entries x none) s.apart;
         } in
         record { reader = r; found = f.found; said = t.said; resaid = t.resaid; stands = moved lines files k k' (in_chains n k.unstored) (set k.readers.items at x) new folder unst cache segs items made }

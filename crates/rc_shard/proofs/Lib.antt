@@ -6,6 +6,7 @@ mod Forgotten
 mod Places
 mod Served
 mod Joined
+mod Latest
 mod Resaid
 mod Chained
 mod Pinning
@@ -21,10 +22,10 @@ mod Paged
 mod Passing
 mod Pinned
 mod Closing
+mod OfItsKey
 mod GoneOn
 mod Compacted
 mod Looking
-mod Listed
 mod Filled
 mod Evicted
 pub mod Counted

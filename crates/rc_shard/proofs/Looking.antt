@@ -44,7 +44,7 @@ use Rattle.rc_machine.specs.State.{Reader, State}
 use Rattle.rc_shard.specs.declared.readers.PartitionReader.{PartitionReader}
 use Rattle.rc_shard.specs.declared.readers.Source.{Source}
 use Rattle.rc_shard.specs.declared.readers.Source.TheVariants as source
-use Rattle.rc_shard.specs.Filling.{IsHeldByReader}
+use Rattle.rc_shard.specs.Filling.{IsCachedByReader, IsHeldByReader, ReadsLatest}
 use Rattle.rc_shard.specs.declared.shard.Shard.{Shard}
 use Rattle.rc_shard.specs.Cached.{HaveCached}
 use Rattle.rc_shard.specs.Knowing.{IsChainWhere}
@@ -56,6 +56,7 @@ use Rattle.rc_shard.specs.calls.Looking.{IsCacheUsed, IsEntrySnapshot, IsSourceI
 use Rattle.rc_shard.specs.calls.Staying.{Staying}
 use Rattle.rc_shard.proofs.Numbered.{chain-beside, chain-here, here-or-beside}
 use Rattle.rc_shard.proofs.Served.{all-served, below-served, same-opened}
+use Rattle.rc_shard.proofs.OfItsKey.{all-still}
 use Rattle.rc_shard.proofs.Standing.{sound-less, stands-cached}
 
 -- ---- what is left
@@ -154,6 +155,16 @@ counts-behind taken k l k' u c = record {
 }
 
 -- where nothing was lost over several calls nothing was lost at one of them
+-- so nothing was skipped
+pub skipped-within : (a b c d : Memory) → NoCountFell a b → NoCountFell b c → NoCountFell c d → NoneLost a.counts.skipped d.counts.skipped → NoneLost b.counts.skipped c.counts.skipped
+skipped-within a b c d f g h none =
+    let e = none.0 in
+    let l = none.1 in
+    let first = f.skipped in
+    let second = g.skipped in
+    let third = h.skipped in
+    (omega (arith, e, first, second, third), omega (arith, e, l, first, second, third))
+
 pub lost-within : (a b c d : Memory) → NoCountFell a b → NoCountFell b c → NoCountFell c d → NoneLost (losses a) (losses d) → NoneLost (losses b) (losses c)
 lost-within a b c d f g h none =
     let e = none.0 in
@@ -332,23 +343,32 @@ known-pinned entry m mid n first second a b P h = some-known entry (IsChainWhere
 
 -- ---- what a shard stands for
 
--- a reader that was opened over a snapshot to which the static row is known holds it
-pub held-opened : (k new : Shard) (m : State) (id : ℕ) (key : List ℕ) (x : PartitionReader) (source : Source) → IsSourceIn k m key source → IsSourceKnown k.unstored.chains source → cached_of x ≡ source_snap source → new.cache.entries ≡ k.cache.entries → x.key ≡ key → lookup (λ q. q == id) new.readers.items ≡ Some x →
-    ((s : Snap) → HasPin k.unstored.chains s.chain s.pin → KnowsStaticRow k.unstored.chains s → KnowsStaticRow new.unstored.chains s) → IsHeldByReader id key new
-held-opened k new m id key x (source.Read list) is known snap entries own found keeps = absurd known
-held-opened k new m id key x (source.Cached s) is known snap entries own found keeps = record {
+-- a reader that was opened over a snapshot holds it
+pub cached-opened : (k new : Shard) (m : State) (id : ℕ) (key : List ℕ) (x : PartitionReader) (source : Source) → IsSourceIn k m key source → IsSome (source_snap source) → cached_of x ≡ source_snap source → new.cache.entries ≡ k.cache.entries → x.key ≡ key → lookup (λ q. q == id) new.readers.items ≡ Some x → ReadsLatest new.folder.infos x → IsCachedByReader id key new
+cached-opened k new m id key x (source.Read list) is some snap entries own found latest = absurd (cc)
+cached-opened k new m id key x (source.Cached s) is some snap entries own found latest = record {
   reader = x;
   found = found;
   of_key = own;
   holds = record { snap = s; held = snap; entry = subst (λ (q : List ℕ). entry_number new.cache.entries q ≡ Some s.chain) (sym own) (ap (λ es. entry_number es key) entries ∙ is.entry) };
+  latest = latest;
+}
+
+-- to which the static row is known where it was
+pub held-opened : (k new : Shard) (m : State) (id : ℕ) (key : List ℕ) (x : PartitionReader) (source : Source) → IsSourceIn k m key source → IsSourceKnown k.unstored.chains source → cached_of x ≡ source_snap source → new.cache.entries ≡ k.cache.entries → x.key ≡ key → lookup (λ q. q == id) new.readers.items ≡ Some x →
+    ((s : Snap) → HasPin k.unstored.chains s.chain s.pin → KnowsStaticRow k.unstored.chains s → KnowsStaticRow new.unstored.chains s) → ReadsLatest new.folder.infos x → IsHeldByReader id key new
+unfolding cached-opened
+held-opened k new m id key x (source.Read list) is known snap entries own found keeps latest = absurd known
+held-opened k new m id key x (source.Cached s) is known snap entries own found keeps latest = record {
+  reads = cached-opened k new m id key x (source.Cached s) is refl snap entries own found latest;
   head = keeps s (has-pin k.unstored.chains s is.there) known;
 }
 
 module _ (lines : PartReader → Memory → List Mutation → List OutLine → Type 0) (stays : Staying lines) where
   -- where below chains of which no snapshot was taken something else lies now
   pub used-for : Beside → (told : Option Files) (f : Tabled) (u : Unstored 131072) (n : Memory) (a b : List (List ℕ × ℕ)) (readers : List (ℕ × PartitionReader)) (segments taken : ℕ) (m : State) → IsRest taken u.chains n → (cached : HaveCached f.schema b n m) (s : AreFor lines told f u a readers segments 0 m) →
-      ((id pin : ℕ) → HasCacheSnapshot u.chains id pin → cached.below id ≡ s.cached.below id) → AreFor lines told f (in_chains n u) b readers segments taken m
-  used-for beside told f u n a b readers segments taken m r cached s same = record {
+      ((id pin : ℕ) → HasCacheSnapshot u.chains id pin → cached.below id ≡ s.cached.below id) → ((id pin : ℕ) → HasCacheSnapshot u.chains id pin → (key : List ℕ) → entry_number b key ≡ Some id → entry_number a key ≡ Some id) → AreFor lines told f (in_chains n u) b readers segments taken m
+  used-for beside told f u n a b readers segments taken m r cached s same were = record {
     over = s.over;
     have = record { sealed = s.have.sealed; later = s.have.later; have = writes-still beside taken u n r f.schema s.have.sealed s.have.later s.have.have; are = s.have.are; count = s.have.count };
     whole = s.whole;
@@ -359,4 +379,5 @@ module _ (lines : PartReader → Memory → List Mutation → List OutLine → T
     taken = (let a = s.taken in let b = r.snapshots in omega (arith, a, b));
     served = all-served lines stays m m (same-opened m) u.chains n cached.below (stands-cached lines stays f.schema b n m cached) readers m.readers r.seen r.pins (below-served lines s.cached.below cached.below m u.chains readers m.readers same s.served);
     two = s.two;
+    apart = all-still u.chains a b were lines s.cached.below m readers m.readers s.served s.apart;
   }

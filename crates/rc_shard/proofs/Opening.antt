@@ -26,6 +26,8 @@ use Rattle.rc_tables.specs.Tables.{listing}
 use Rattle.rc_cached.specs.Stands.{HasCacheSnapshot}
 use Rattle.rc_lookup.specs.Unstored.{Unstored}
 use Rattle.rc_lookup.specs.Memtables.{HaveWrites, in_chains}
+use Rattle.rc_lookup.specs.Entries.{AreEntries}
+use Rattle.rc_lookup.specs.Found.{entry_number}
 use Rattle.rc_lookup.specs.Readers.{IsNoneOf}
 use Rattle.rc_opened.specs.Opened.{AreChangesOf}
 use Rattle.rc_paging.specs.declared.forms.PartReader.{PartReader}
@@ -48,6 +50,7 @@ use Rattle.rc_shard.specs.calls.Looking.{IsSourceIn, source_snap}
 use Rattle.rc_shard.specs.calls.Opened.{IsOpenedOver, IsReadWhole, IsSourceLetGo, TellsBelow, below_if}
 use Rattle.rc_shard.specs.calls.Staying.{Staying}
 use Rattle.rc_shard.specs.calls.Storing.{KeepsUnstored}
+use Rattle.rc_shard.proofs.OfItsKey.{of-more}
 use Rattle.rc_shard.proofs.Places.{nowhere-of}
 use Rattle.rc_shard.proofs.Closing.{IsPastRest, past-rest, writes-past}
 use Rattle.rc_shard.proofs.GoneOn.{seen-if}
@@ -132,6 +135,11 @@ pub source-apart : (k : Shard) (m : State) (key : List ℕ) (source : Source) �
 source-apart k m key (source.Read list) is = tt
 source-apart k m key (source.Cached t) is = is.apart
 
+-- its chain is no other partition's
+pub source-of-key : (k : Shard) (m : State) (key : List ℕ) (source : Source) → IsSourceIn k m key source → AreEntries k.cache.entries k.unstored.chains → IfSome (source_snap source) (λ s. (q : List ℕ) → entry_number k.cache.entries q ≡ Some s.chain → q ≡ key)
+source-of-key k m key (source.Read list) is are = tt
+source-of-key k m key (source.Cached t) is are = λ q found. are.apart q key t.chain found is.entry
+
 pub source-there : (k : Shard) (m : State) (key : List ℕ) (source : Source) → IsSourceIn k m key source → IsCachedThere k.unstored.chains (source_snap source)
 source-there k m key (source.Read list) is = tt
 source-there k m key (source.Cached t) is = is.there
@@ -174,9 +182,9 @@ module _ (lines : PartReader → Memory → List Mutation → List OutLine → T
       ((schema : SchemaValue) (writes later : List Write) (below : List Mutation) → HaveWrites schema k.unstored writes later → AreChangesOf schema (changes_to key writes) → AreChangesOf schema (changes_to key later) → AreChangesOf schema below → TellsBelow k'.unstored.chains source below said →
       IsOpenedOver lines schema k'.unstored.chains slice below said (changes_to key writes) (changes_to key later) x) →
       AreHeldThere k'.unstored.chains (held_by x.reader) → cached_of x ≡ source_snap source → x.key ≡ key → x.tables ≡ k.folder.infos → ((s : Snap) → HasPin k.unstored.chains s.chain s.pin → IsNoneOf (written_snaps_of x) s) → IfSome (source_snap source) (λ s. AllByRecursion (λ o. IsOtherSnap (cached_of o.1) s) k.readers.items) →
-      (m : State) (s : StandsBeside lines (number_of_snaps (source_snap source)) files k m) → IsSaid m key said → TellsBelow k'.unstored.chains source (lies_below s.cached.below (source_snap source)) said → AreChangesOf k.folder.schema (lies_below s.cached.below (source_snap source)) →
+      IfSome (source_snap source) (λ s. (q : List ℕ) → entry_number k.cache.entries q ≡ Some s.chain → q ≡ key) → (m : State) (s : StandsBeside lines (number_of_snaps (source_snap source)) files k m) → IsSaid m key said → TellsBelow k'.unstored.chains source (lies_below s.cached.below (source_snap source)) said → AreChangesOf k.folder.schema (lies_below s.cached.below (source_snap source)) →
       Stands lines files k' (record m { readers = m.readers ++ (id, reader_with m key slice said) ∷ [] })
-  opens-reader files k k' id key slice x source both unused folder cache segs items kept said gives held snap own tables fresh apart m s of tells fits =
+  opens-reader files k k' id key slice x source both unused folder cache segs items kept said gives held snap own tables fresh apart of_key m s of tells fits =
       let schema : SchemaValue = k.folder.schema in
       let h = s.have in
       let kept-in : AreFor lines files k.folder k'.unstored k.cache.entries k.readers.items k.segments (number_of_snaps (source_snap source)) m = kept-for lines stays files k.folder k.unstored k'.unstored k.cache.entries k.readers.items k.segments (number_of_snaps (source_snap source)) m (kept schema) s in
@@ -190,7 +198,8 @@ module _ (lines : PartReader → Memory → List Mutation → List OutLine → T
       let there = served-there lines s.cached.below m k.unstored.chains k.readers.items m.readers s.served in
       let pairs = more-two k.unstored.chains id (id, x) k.readers.items there (nowhere-of id k.readers.items unused) refl fresh (apart-each (cached_of x) (source_snap source) k.readers.items snap apart) s.two in
       let stands = reading-more lines stays files k.folder k'.unstored k.cache.entries k.readers.items (k.readers.items ++ (id, x) ∷ []) k.segments (number_of_snaps (source_snap source)) 0 m given kept-in
-      (let sum = cached-more (id, x) k.readers.items in let e = ap number_of_snaps snap in omega (arith, sum, e)) served pairs in
+      (let sum = cached-more (id, x) k.readers.items in let e = ap number_of_snaps snap in omega (arith, sum, e)) served pairs
+      (of-more k.cache.entries k.readers.items (id, x) (subst (λ (o : Option Snap). IfSome o (λ s. (q : List ℕ) → entry_number k.cache.entries q ≡ Some s.chain → q ≡ x.key)) (sym snap) (subst (λ (q : List ℕ). IfSome (source_snap source) (λ s. (r : List ℕ) → entry_number k.cache.entries r ≡ Some s.chain → r ≡ q)) (sym own) of_key)) s.apart) in
       moved lines files k k' k'.unstored (k.readers.items ++ (id, x) ∷ []) (record m { readers = given }) folder refl cache segs items stands
 
   -- ---- what tells what the tables say of a partition
@@ -254,6 +263,7 @@ module _ (lines : PartReader → Memory → List Mutation → List OutLine → T
           taken = (let a = s.taken in let b = rest.snapshots in omega (arith, a, b));
           served = let-go-served s.cached.below m u.chains n (stands-cached lines stays f.schema entries n m cached) snap rest readers m.readers apart s.served;
           two = s.two;
+          apart = s.apart;
         }
 
     pub not-opened : (files : Option Files) (k k' : Shard) (m : State) (key : List ℕ) (source : Source) → k'.folder ≡ k.folder → k'.cache.entries ≡ k.cache.entries → k'.segments ≡ k.segments → k'.readers.items ≡ k.readers.items → IsSourceLetGo (source_snap source) k.folder.schema k.unstored k'.unstored → IsSourceIn k m key source →

@@ -28,7 +28,7 @@ use Rattle.rc_shard.specs.Using.{LeavesBeside}
 use Rattle.rc_shard.specs.calls.Looking.{source_snap}
 use Rattle.rc_shard.specs.calls.Opened.{IsReaderPinned}
 use Rattle.rc_shard.specs.declared.shard.Shard.{Shard}
-use Rattle.rc_shard.specs.Filling.{IsFilledAsTold, IsKnownOnceOpened}
+use Rattle.rc_shard.specs.Filling.{IsCachedByReader, IsFilledAsTold, IsKnownOnceOpened, NoneSkipped}
 use Rattle.rc_shard.specs.Knowing.{AreEndsRecent, IsRecentOnceHit, IsStaticCached}
 use Rattle.rc_shard.specs.Opening.{IsOpenedAsTold, PinsPartition}
 use Rattle.rc_shard.specs.calls.Keeping.{TellsOf}
@@ -65,7 +65,7 @@ module _ (id : ℕ) (key : List ℕ) (slice : Slice) (readers : List (ℕ × Par
 
 module _ (id : ℕ) (key : List ℕ) (slice : Slice) (k : Shard) where
   -- what is known of the partition is known once its reader is opened
-  pub filled-opened : (before now : ℕ) (k' : Shard) (r : Result Reply AllocError) → IfOk r (λ reply. reply ≡ replies.Fine) → IfOk r (λ _. NoneLost (losses k.unstored.chains) (losses k'.unstored.chains) → IsKnownOnceOpened id key k k') → IfOk r (λ reply. IsFilledAsTold (OpenRead id key slice) reply before now k k')
+  pub filled-opened : (before now : ℕ) (k' : Shard) (r : Result Reply AllocError) → IfOk r (λ reply. reply ≡ replies.Fine) → IfOk r (λ _. (NoneSkipped k k' → IsCachedByReader id key k') × (NoneLost (losses k.unstored.chains) (losses k'.unstored.chains) → IsKnownOnceOpened id key k k')) → IfOk r (λ reply. IsFilledAsTold (OpenRead id key slice) reply before now k k')
   filled-opened before now k' (Ok reply) fine known = subst (λ q. IsFilledAsTold (OpenRead id key slice) q before now k k') (sym fine) known
   filled-opened before now k' (Err e) fine known = tt
 

@@ -80,4 +80,4 @@ touched-as-given id at d lines k k' p here t = subst (λ (o : Option PartitionRe
 pub keeps-touched : (lines : PartReader → Memory → List Mutation → List OutLine → Type 0) → Staying lines → Beside → (k : Shard) (n : Memory) (these : Member → Type 0) → AreTouched these k.unstored.chains n → LeavesRest k.unstored.chains n → (AreInUse k.unstored.chains → AreInUse n) →
     ((schema : SchemaValue) (below : Below) → CacheSays schema below k.unstored.chains → CacheSays schema below n) → ((entries : List (List ℕ × ℕ)) → AreEntries entries k.unstored.chains → AreEntries entries n) → StandsForTheSame (Stands lines) k (record k { unstored = in_chains n k.unstored })
 keeps-touched lines stays beside k n these t rest used says entries = λ files m s.
-    used-for lines stays beside files k.folder k.unstored n k.cache.entries k.cache.entries k.readers.items k.segments 0 m (rest-plain k.unstored.chains n rest) (cached-touched these k.unstored.chains n t rest used says entries k.folder.schema k.cache.entries m s.cached) s (λ id pin h. refl)
+    used-for lines stays beside files k.folder k.unstored n k.cache.entries k.cache.entries k.readers.items k.segments 0 m (rest-plain k.unstored.chains n rest) (cached-touched these k.unstored.chains n t rest used says entries k.folder.schema k.cache.entries m s.cached) s (λ id pin h. refl) (λ id pin there key found. found)

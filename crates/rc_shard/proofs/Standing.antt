@@ -1,7 +1,7 @@
 -- For which state a shard stands after its calls.
 use Rattle.std.proofs.Common.{◌≡◌, ℕ, ◌+◌, ◌-◌, ◌*◌, ◌/◌, ◌<◌, ◌≤◌, List, [], ◌∷◌, ◌++◌, length, map, sum_by, filter, slice_index_or, Option, Some, None, AllPairs, refl, sym, ap, subst, ◌∙◌, arith, append_assoc}
 use Rattle.std.specs.Prelude.{Err, IfOk, IfSome, Ok, OnErr, Result}
-use Rattle.std.specs.List.{AllZip}
+use Rattle.std.specs.List.{AllByRecursion, AllZip}
 use Rattle.std.proofs.Math.Seq.{drop-append-le}
 use Rattle.std.proofs.lemmas.List.Elements.{All-append, All-cons}
 use Rattle.std.proofs.lemmas.List.Sums.{sum_by_push}
@@ -36,7 +36,7 @@ use Rattle.rc_machine.specs.Room.{MayBeFull}
 use Rattle.rc_machine.specs.State.{Reader, State, Table, opened_state}
 use Rattle.rc_machine.specs.Steps.{IsSaid}
 use Rattle.rc_machine.specs.Tables.{AreListed, AreTables}
-use Rattle.rc_shard.specs.Readers.{AreTwo, IsServed, cached_readers, holding}
+use Rattle.rc_shard.specs.Readers.{AreTwo, IsOfItsKey, IsServed, cached_readers, holding}
 use Rattle.rc_shard.specs.Stands.{AreFor, AreSound, HaveUnstored}
 use Rattle.rc_shard.specs.calls.Staying.{Staying}
 use Rattle.rc_lookup.specs.LetGo.{TakesNoMore}
@@ -226,6 +226,7 @@ module _ (lines : PartReader → Memory → List Mutation → List OutLine → T
           taken = (let a = s.taken in let b = snaps.number in omega (arith, a, b));
           served = all-served lines stays m m (same-opened m) u.chains v.chains s.cached.below (stands-cached lines stays f.schema entries v.chains m cached) readers m.readers k.seen snaps.each s.served;
           two = s.two;
+          apart = s.apart;
         }
 
     -- one write more
@@ -246,12 +247,13 @@ module _ (lines : PartReader → Memory → List Mutation → List OutLine → T
           taken = (let a = s.taken in let b = snaps.number in omega (arith, a, b));
           served = all-served lines stays m new (opened-logged m (m.log ++ w ∷ [])) u.chains v.chains s.cached.below (stands-cached lines stays f.schema entries v.chains new cached) readers m.readers put.seen snaps.each s.served;
           two = s.two;
+          apart = s.apart;
         }
 
     -- the machine has other readers beside those of the shard, which hold as many snapshots of the row cache more as fewer are taken beside them
     pub reading-more : (told : Option Files) (f : Tabled) (u : Unstored 131072) (entries : List (List ℕ × ℕ)) (readers others : List (ℕ × PartitionReader)) (segments more less : ℕ) (m : State) (given : List (ℕ × Reader)) (s : AreFor lines told f u entries readers segments more m) → cached_readers others + less ≡ cached_readers readers + more →
-        AllZip (IsServed lines s.cached.below m u.chains) others given → AllPairs AreTwo (map holding others) → AreFor lines told f u entries others segments less (record m { readers = given })
-    reading-more told f u entries readers others segments more less m given s many served two =
+        AllZip (IsServed lines s.cached.below m u.chains) others given → AllPairs AreTwo (map holding others) → AllByRecursion (IsOfItsKey entries) others → AreFor lines told f u entries others segments less (record m { readers = given })
+    reading-more told f u entries readers others segments more less m given s many served two apart =
         let new : State = record m { readers = given } in
         let cached = cached-still f.schema entries u.chains u.chains m new (λ key said h. h) (leaves-itself u.chains) s.cached in
         record {
@@ -265,11 +267,12 @@ module _ (lines : PartReader → Memory → List Mutation → List OutLine → T
           taken = (let a = s.taken in omega (arith, a, many));
           served = all-served lines stays m new (opened-reading m given) u.chains u.chains s.cached.below (stands-cached lines stays f.schema entries u.chains new cached) others given (all-see u.chains u.chains (λ t on. record { pin = on; versions = refl; kind = refl })) (λ id pin h. h) served;
           two = two;
+          apart = apart;
         }
 
     pub reading-for : (told : Option Files) (f : Tabled) (u : Unstored 131072) (entries : List (List ℕ × ℕ)) (readers others : List (ℕ × PartitionReader)) (segments more : ℕ) (m : State) (given : List (ℕ × Reader)) (s : AreFor lines told f u entries readers segments more m) → cached_readers others ≡ cached_readers readers →
-        AllZip (IsServed lines s.cached.below m u.chains) others given → AllPairs AreTwo (map holding others) → AreFor lines told f u entries others segments more (record m { readers = given })
-    reading-for told f u entries readers others segments more m given s many served two = reading-more told f u entries readers others segments more more m given s (ap (λ n. n + more) many) served two
+        AllZip (IsServed lines s.cached.below m u.chains) others given → AllPairs AreTwo (map holding others) → AllByRecursion (IsOfItsKey entries) others → AreFor lines told f u entries others segments more (record m { readers = given })
+    reading-for told f u entries readers others segments more m given s many served two apart = reading-more told f u entries readers others segments more more m given s (ap (λ n. n + more) many) served two apart
 
   -- as it is opened
   pub opened-for : (told old : Option Files) (f : Tabled) (u : Unstored 131072) (entries : List (List ℕ × ℕ)) (readers : List (ℕ × PartitionReader)) (segments : ℕ) (schema : SchemaValue) (tables : List Table) → f.schema ≡ schema → told ≡ old → AreTables old schema tables → AreListed old schema tables f.infos →
@@ -285,4 +288,5 @@ module _ (lines : PartReader → Memory → List Mutation → List OutLine → T
     taken = omega (arith, taken);
     served = subst (λ os. AllZip (IsServed lines cached.below (opened_state segments old schema tables f.infos) u.chains) os []) (sym empty) tt;
     two = subst (λ os. AllPairs AreTwo (map holding os)) (sym empty) (λ i j d l k. absurd (omega (arith, k)));
+    apart = subst (AllByRecursion (IsOfItsKey entries)) (sym empty) tt;
   }

@@ -50,6 +50,7 @@ use Rattle.rc_shard.specs.calls.Looking.{KeepsOver}
 use Rattle.rc_shard.specs.calls.Reading.{IsGoneOn, IsPaged, IsPagedBeside, with_reader}
 use Rattle.rc_shard.specs.calls.Staying.{Staying}
 use Rattle.rc_shard.specs.calls.Storing.{KeepsUnstored, TakesWrite}
+use Rattle.rc_shard.proofs.OfItsKey.{of-at, of-same, of-set}
 use Rattle.rc_shard.proofs.Places.{IsNowhere, IsPlace, in-range, one-of}
 use Rattle.rc_shard.proofs.Served.{IsFound, cached-set, few-cached, look-none, look-some, same-two, served-count, set-kept, set-served}
 use Rattle.rc_shard.proofs.Standing.{kept-for, may-be-full, reading-for, written-for}
@@ -291,7 +292,8 @@ module _ (lines : PartReader → Memory → List Mutation → List OutLine → T
         let held : held_by x.1.reader ≡ held_by (get_or k.readers.items at d).1.reader = kept.3 ∙ ap (λ (o : ℕ × PartitionReader). held_by o.1.reader) (sym here) in
         let served = set-served lines s.cached.below m k.unstored.chains id at d x (reader_past count r) k.readers.items m.readers now same p s.served in
         let pairs = same-two id at d x k.readers.items p same held s.two in
-        let new = reading-for lines stays files k.folder k.unstored k.cache.entries k.readers.items (set k.readers.items at x) k.segments 0 m (set_value (λ q. q == id) m.readers (reader_past count r)) s (many-same at d x k.readers.items (in-range id k.readers.items at p) held) served pairs in
+        let new = reading-for lines stays files k.folder k.unstored k.cache.entries k.readers.items (set k.readers.items at x) k.segments 0 m (set_value (λ q. q == id) m.readers (reader_past count r)) s (many-same at d x k.readers.items (in-range id k.readers.items at p) held) served pairs
+        (of-set k.cache.entries k.readers.items at x (of-same k.cache.entries x d snap kept.1 (of-at k.cache.entries k.readers.items at d (in-range id k.readers.items at p) here s.apart)) s.apart) in
         record {
           reader = r;
           found = f.found;
@@ -321,7 +323,8 @@ module _ (lines : PartReader → Memory → List Mutation → List OutLine → T
         let held : held_by x.1.reader ≡ held_by (get_or k.readers.items at d).1.reader = kept.3 ∙ ap (λ (o : ℕ × PartitionReader). held_by o.1.reader) (sym here) in
         let served = set-kept lines s.cached.below m k.unstored.chains id at d x k.readers.items m.readers (λ q h. now q (subst (λ (o : ℕ × PartitionReader). IsServed lines s.cached.below m k.unstored.chains o q) here h)) p s.served in
         let pairs = same-two id at d x k.readers.items p same held s.two in
-        let new = reading-for lines stays files k.folder k.unstored k.cache.entries k.readers.items (set k.readers.items at x) k.segments 0 m m.readers s (many-same at d x k.readers.items (in-range id k.readers.items at p) held) served pairs in
+        let new = reading-for lines stays files k.folder k.unstored k.cache.entries k.readers.items (set k.readers.items at x) k.segments 0 m m.readers s (many-same at d x k.readers.items (in-range id k.readers.items at p) held) served pairs
+        (of-set k.cache.entries k.readers.items at x (of-same k.cache.entries x d snap kept.1 (of-at k.cache.entries k.readers.items at d (in-range id k.readers.items at p) here s.apart)) s.apart) in
         moved files k k' k.unstored (set k.readers.items at x) m b.folder b.unstored (ap (λ c. c.entries) b.cache) b.segments b.readers new
 
     -- ---- a write

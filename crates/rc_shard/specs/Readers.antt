@@ -2,6 +2,7 @@
 --     written_snaps_of, cached_of    the snapshots that a reader holds: of what is written, and of the row cache
 --     AreOfTwo, AreHeldThere      its snapshots are there
 --     ShareNone, AreTwo      no two readers share a snapshot or an id
+--     IsOfItsKey             the chain of a reader's snapshot is no other partition's
 --     number_of_snaps, cached_readers    how many hold a snapshot of the row cache
 --     WasOpened              the tables that a reader was opened over are the first ones
 --     IsReadOver             a reader over the row cache reads what the machine's does
@@ -17,6 +18,7 @@ use Rattle.rc_snapshots.specs.declared.snaps.Snaps.{Snaps}
 use Rattle.rc_snapshots.specs.Seeing.{AreThere}
 use Rattle.rc_tfile.specs.declared.info.TableInfo.{TableInfo}
 use Rattle.rc_tables.specs.Tables.{listing}
+use Rattle.rc_lookup.specs.Found.{entry_number}
 use Rattle.rc_lookup.specs.Readers.{IsNoneOf}
 use Rattle.rc_cached.specs.Stands.{HasCacheSnapshot}
 use Rattle.rc_opened.specs.Opened.{AreChangesOf}
@@ -70,6 +72,10 @@ holding o = (o.0, held_by o.1.reader)
 pub record AreTwo (x y : ℕ × HeldSnaps) : Type 0 where
   pub ids : x.0 ≡ y.0 → ⊥
   pub snaps : ShareNone x.1 y.1
+
+-- the chain of which a reader holds a snapshot of the row cache is no entry's but that of its partition
+abbrev pub IsOfItsKey : List (List ℕ × ℕ) → ℕ × PartitionReader → Type 0
+IsOfItsKey entries o = IfSome (cached_of o.1) (λ s. (key : List ℕ) → entry_number entries key ≡ Some s.chain → key ≡ o.1.key)
 
 -- how many snapshots there are of one that may be
 abbrev pub number_of_snaps : Option Snap → ℕ

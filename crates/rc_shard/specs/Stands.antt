@@ -4,7 +4,7 @@
 --     AreFor, StandsBeside, Stands      all of this, over the tables of a folder
 --     IsFullAsTold    when a write is refused as full
 use Rattle.std.specs.Prelude.{◌≡◌, ◌≤◌, ◌+◌, ℕ, false, List, ◌++◌, length, map, All, AllPairs, Option, sum_by, ⊤}
-use Rattle.std.specs.List.{AllZip}
+use Rattle.std.specs.List.{AllByRecursion, AllZip}
 use Rattle.rc_outside.specs.Files.{Files}
 use Rattle.rc_schema.specs.SchemaValue.{SchemaValue}
 use Rattle.rc_writes.specs.Weight.{weight}
@@ -28,7 +28,7 @@ use Rattle.rc_machine.specs.Standing.{IsOver}
 use Rattle.rc_shard.specs.declared.shard.Shard.{Shard}
 use Rattle.rc_shard.specs.declared.readers.PartitionReader.{PartitionReader}
 use Rattle.rc_shard.specs.Cached.{HaveCached}
-use Rattle.rc_shard.specs.Readers.{AreTwo, IsServed, cached_readers, holding}
+use Rattle.rc_shard.specs.Readers.{AreTwo, IsOfItsKey, IsServed, cached_readers, holding}
 
 -- under a schema both memtables stand for the writes of the state that stand in no table: one for those that are sealed, the other for the later ones
 pub record HaveUnstored (schema : SchemaValue) (u : Unstored 131072) (m : State) : Type 0 where
@@ -58,6 +58,7 @@ module _ (lines : PartReader → Memory → List Mutation → List OutLine → T
     pub taken : cache_snapshots u.chains ≤ cached_readers readers + more
     pub served : AllZip (IsServed lines cached.below m u.chains) readers m.readers
     pub two : AllPairs AreTwo (map holding readers)
+    pub apart : AllByRecursion (IsOfItsKey entries) readers
 
   -- so does a shard, where so many snapshots more of the row cache are taken than its readers hold
   abbrev pub StandsBeside : ℕ → Option Files → Shard → State → Type 0

@@ -1,5 +1,5 @@
 //! A reader's next lines, over the row cache and past it.
-ghost use Rattle.std.specs.Prelude.{true, false, ◌≡◌, ◌+◌, ◌≤◌, ◌<◌, ◌==◌, ℕ, List, Option, None, Some, IfErr, IfOk, OnErr, OnOk, get_or, position};
+ghost use Rattle.std.specs.Prelude.{true, false, ◌≡◌, ◌+◌, ◌++◌, ◌≤◌, ◌<◌, ◌==◌, ℕ, List, Option, None, Some, IsSome, IfErr, IfOk, OnErr, OnOk, get_or, position};
 ghost use Rattle.rc_outside.specs.Files.{Files};
 ghost use Rattle.rc_outside.specs.Faults.{Rose};
 ghost use Rattle.rc_mutation.specs.declared.mutations.Mutation.{Mutation as Change};
@@ -11,11 +11,14 @@ ghost use Rattle.rc_lookup.specs.Fillers.{losses};
 ghost use Rattle.rc_lookup.specs.Found.{entry_number};
 ghost use Rattle.rc_lookup.specs.Touched.{AreTouched, IsEntryOfGiven};
 ghost use Rattle.rc_machine.specs.Serving.{FaultsAreCounted, OnFaulty, Stops, Takes, most_asks};
+ghost use Rattle.rc_machine.specs.Standing.{IsOver};
 ghost use Rattle.rc_machine.specs.State.{Reader, State, reader_of};
+ghost use Rattle.rc_machine.specs.Steps.{IsSaid};
+ghost use Rattle.rc_tfile.specs.declared.info.TableInfo.{TableInfo};
 ghost use Rattle.rc_folder.specs.Tabled.{IsSaidByFirst};
 ghost use Rattle.rc_shard.specs.Losing.{LosesInCrowd};
 ghost use Rattle.rc_shard.specs.Knowing.{AsksNothingWhereKnown, IsReadCached, IsKnownStill, IsTouchedAsGiven, StaysKnown};
-ghost use Rattle.rc_shard.specs.Filling.{HoldsCached, IsFilledAsTold, IsPassedAsTold};
+ghost use Rattle.rc_shard.specs.Filling.{IsFilledAsTold, IsPassedAsTold, MayRefill};
 ghost use Rattle.rc_shard.specs.Readers.{cached_of};
 ghost use Rattle.rc_shard.specs.calls.Caching.{LeavesCache};
 ghost use Rattle.rc_shard.specs.calls.Keeping.{CountsStay, StandsForTheSame, TellsOf};
@@ -27,10 +30,10 @@ use crate::releasing::give_back;
 use crate::resaying::what_is_told_anew;
 use crate::shard::Shard;
 use crate::staying::a_reader_stays;
-use rc_folder::Machine;
+use rc_folder::{Folder, Machine};
 use rc_lines::{Command, Refusal, Reply};
 use rc_lookup::unstored_laws::what_leaves_the_chains_of_both_leaves_their_writes;
-use rc_lookup::{RowCache, keep_recent, populate};
+use rc_lookup::{keep_recent, populate};
 use rc_mutation::Mutation;
 use rc_mutation::laws::a_join_says_what_the_writes_say;
 use rc_outside::Store;
@@ -141,7 +144,7 @@ impl Shard {
         }
     }
 
-    // Puts what was read of the tables of a reader's opening into the row cache, in place of what that has of the partition, where the reader holds a snapshot of it: no table was written with the partition since it was opened then. The only error is want of memory.
+    // Puts what was read of the tables of a reader's opening into the row cache, in place of what that has of the partition, where the reader has a snapshot of the row cache and no table was written with the partition since it was opened. The only error is want of memory.
     fn refill(&mut self, alloc: Global, at: usize, read: &Mutation) -> Result<(), AllocError>
         requires place { (id : ℕ) × (files : Option Files) × (m : State) × ⟦<Shard as Machine>⟧.stands files self.old m × (position (λ reader. reader.0 == id) self.old.readers.items ≡ Some at) }
         requires mutation { IsMutation read.now }
@@ -157,7 +160,7 @@ impl Shard {
         what_leaves_the_chains_of_both_leaves_their_writes();
         self.unstored.chains.known();
         let reader = &self.readers[at].1;
-        if holds_cached(&self.cache, reader) {
+        if may_refill(&self.folder, reader) {
             let chains = &mut self.unstored.chains;
             populate(alloc, &mut self.cache, chains, &reader.key, read)
         } else {
@@ -231,16 +234,11 @@ pub(crate) fn not_read(error: StreamErr) -> Result<Reply, AllocError>
     }
 }
 
-// Whether a reader holds a snapshot of the chain that the row cache has of its partition.
-fn holds_cached(cache: &RowCache, reader: &PartitionReader) -> bool
-    ensures yes { result ≡ true → HoldsCached cache.now.entries reader.now }
-    ensures no { result ≡ false → HoldsCached cache.now.entries reader.now → ⊥ }
+// Whether a reader may put what it misses into the row cache: it has a snapshot of that, and no table behind those of its opening lists its partition, so what they say is what all tables say.
+fn may_refill(folder: &Folder, reader: &PartitionReader) -> bool
+    ensures held { result ≡ true → IsSome (cached_of reader.now) }
+    ensures latest { result ≡ true → (files : Option Files) (m : State) (later : List TableInfo) (said : List Change) → IsOver files folder.now.schema folder.now.infos m → folder.now.infos ≡ reader.now.tables ++ later → IsSaidByFirst m reader.now.tables reader.now.key said → IsSaid m reader.now.key said }
+    ensures no { result ≡ false → MayRefill folder.now.infos reader.now → ⊥ }
 {
-    match (
-        reader.reader.cached_chain(),
-        cache.entries.find(&reader.key),
-    ) {
-        (Some(chain), Some(id)) => chain == id,
-        _ => false,
-    }
+    reader.reader.cached_chain().is_some() && !folder.lists_since(&reader.tables, &reader.key)
 }

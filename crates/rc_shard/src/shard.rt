@@ -30,7 +30,7 @@ ghost use Rattle.rc_shard.specs.Compacting.{IsCompactedAsTold};
 ghost use Rattle.rc_shard.specs.Evicting.{IsEvictedAsTold, IsLostAsTold};
 ghost use Rattle.rc_shard.specs.Losing.{IsLostInCrowd, LosesForWrite, LosesInCrowd};
 ghost use Rattle.rc_shard.specs.Knowing.{AreEndsRecent, AsksNothingWhereKnown, IsCachedWhole, IsKnownStill, IsRecentOnceHit, IsStaticCached, IsTouchedAsGiven, StaysKnown};
-ghost use Rattle.rc_shard.specs.Filling.{IsFilledAsTold, IsHeldByReader, IsPassedAsTold};
+ghost use Rattle.rc_shard.specs.Filling.{IsCachedByReader, IsFilledAsTold, IsHeldByReader, IsPassedAsTold, NoneSkipped, StaysLatest};
 ghost use Rattle.rc_shard.specs.Opening.{IsOpenedAsTold};
 ghost use Rattle.rc_shard.specs.Readers.{number_of_snaps};
 ghost use Rattle.rc_shard.specs.Stands.{IsFullAsTold, StandsBeside};
@@ -58,6 +58,7 @@ use rc_lookup::unstored_laws::{
     what_leaves_the_chains_of_both_leaves_their_writes,
 };
 use rc_lookup::{Chains, RowCache, Unstored, take_known, take_populated};
+use rc_machine::readers_are_fixed;
 use rc_mutation::laws::a_join_says_what_the_writes_say;
 use rc_mutation::{Mutation, Write};
 use rc_outside::Store;
@@ -167,6 +168,7 @@ impl Machine for Shard {
         ensures passes { (m : State) → ⟦<Shard as Machine>⟧.stands (W.files store.old) self.old m → IfOk result (λ reply. IsPassedAsTold m command.now reply self.old self.new) }
         ensures recent { IfOk result (λ reply. IsRecentOnceHit command.now reply self.old self.new) }
         ensures touches { IfOk result (λ reply. IsTouchedAsGiven command.now reply self.old self.new) }
+        ensures latest { OnOk result (StaysLatest self.old self.new) }
         ensures stays { OnOk result (StaysKnown command.now self.old self.new) }
         ensures evicts { IsEvictedAsTold command.now self.old.unstored.chains self.new.unstored.chains }
         ensures compacts { IsCompactedAsTold command.now self.old.unstored.chains self.new.unstored.chains }
@@ -174,6 +176,7 @@ impl Machine for Shard {
         ensures crowds { OnOk result (IsLostInCrowd command.now self.old.unstored.chains self.new.unstored.chains) }
         ensures figures { IfOk result (λ reply. AreCounted command.now reply (W.asks store.old) (W.asks store.new) (figures_of self.old) (figures_of self.new)) }
     {
+        readers_are_fixed();
         let before = store.asks();
         let reply = self.step(alloc, store, command)?;
         self.answered = self.answered.count(command, &reply, before, store.asks());
@@ -374,6 +377,7 @@ impl Shard {
         requires { (m : State) × ⟦<Shard as Machine>⟧.stands (W.files store.old) self.old m }
         ensures says { (m : State) → ⟦<Shard as Machine>⟧.stands (W.files store.old) self.old m → IfOk result (IsSourceIn self.new m key.now) }
         ensures known { IsStaticCached self.old key.now → W.asks store.new ≡ W.asks store.old }
+        ensures caught { IfOk result (λ source. NoneSkipped self.old self.new → IsSome (source_snap source)) }
         ensures held { IfOk result (λ source. NoneLost (losses self.old.unstored.chains) (losses self.new.unstored.chains) → IsSourceKnown self.new.unstored.chains source) }
         ensures whole { OnOk result (NoneLost (losses self.old.unstored.chains) (losses self.new.unstored.chains) → IsStaticCached self.old key.now ⊎ IsCachedWhole self.new key.now) }
         ensures stays { UnlessMemory result (AreKnownStill self.old self.new) }
@@ -420,6 +424,7 @@ impl Shard {
     ) -> Result<Source, StreamErr>
         requires { (m : State) × ⟦<Shard as Machine>⟧.stands (W.files store.old) self.old m }
         ensures says { (m : State) → ⟦<Shard as Machine>⟧.stands (W.files store.old) self.old m → IfOk result (IsSourceIn self.new m key.now) }
+        ensures caught { IfOk result (λ source. NoneSkipped self.old self.new → IsSome (source_snap source)) }
         ensures held { IfOk result (λ source. NoneLost (losses self.old.unstored.chains) (losses self.new.unstored.chains) → IsSourceKnown self.new.unstored.chains source) }
         ensures whole { OnOk result (NoneLost (losses self.old.unstored.chains) (losses self.new.unstored.chains) → IsCachedWhole self.new key.now) }
         ensures stays { UnlessMemory result (AreKnownStill self.old self.new) }
@@ -446,6 +451,7 @@ impl Shard {
         requires fits { ChangeFits self.old.folder.schema read.now }
         ensures says { (files : Option Files) (m : State) (said : List Change) → ⟦<Shard as Machine>⟧.stands files self.old m → IsSaid m key.now said → IsJoinOf read.now said → IfOk result (IsSourceIn self.new m key.now) }
         ensures refused { IfErr result (λ error. error ≡ StreamErr.NoMemory) }
+        ensures caught { IfOk result (λ source. NoneSkipped self.old self.new → IsSome (source_snap source)) }
         ensures held { IfOk result (λ source. NoneLost (losses self.old.unstored.chains) (losses self.new.unstored.chains) → IsSourceKnown self.new.unstored.chains source) }
         ensures whole { OnOk result (NoneLost (losses self.old.unstored.chains) (losses self.new.unstored.chains) → IsCachedWhole self.new key.now) }
         ensures stays { OnOk result (AreKnownStill self.old self.new) }
@@ -479,6 +485,7 @@ impl Shard {
         ensures pins { IfOk result (λ _. IsReaderPinned id opening.key source self.old.readers.items self.old.unstored self.new.readers.items self.new.unstored) }
         ensures opened { (files : Option Files) (m : State) → StandsBeside ⟦<PartReader as LeavesOver<Chains<131_072>>>⟧.lines (number_of_snaps (source_snap source)) files self.old m → IsSourceIn self.old m opening.key source →
             (said : List Change) × IsSaid m opening.key said × IfOk result (λ _. ⟦<Shard as Machine>⟧.stands files self.new (record m { readers = m.readers ++ (id, reader_with m opening.key opening.slice said) ∷ [] })) }
+        ensures caught { (m : State) → IsSourceIn self.old m opening.key source → IfOk result (λ _. IsSome (source_snap source) → IsCachedByReader id opening.key self.new) }
         ensures held { (m : State) → IsSourceIn self.old m opening.key source → IfOk result (λ _. IsSourceKnown self.old.unstored.chains source → IsHeldByReader id opening.key self.new) }
         ensures stays { IfOk result (λ _. (q : List ℕ) → IsKnownStill q self.old self.new) }
         ensures recency { IfOk result (λ _. (self.new.cache.entries ≡ self.old.cache.entries) × (self.new.unstored.chains.recency ≡ self.old.unstored.chains.recency)) }

@@ -36,7 +36,7 @@ use Rattle.rc_paging.specs.Pages.{IsPagePassed}
 use Rattle.rc_shard.specs.declared.readers.PartitionReader.{PartitionReader}
 use Rattle.rc_shard.specs.declared.shard.Shard.{Shard}
 use Rattle.rc_shard.specs.Readers.{cached_of, written_snaps_of}
-use Rattle.rc_shard.specs.Filling.{HoldsCached}
+use Rattle.rc_shard.specs.Filling.{MayRefill}
 use Rattle.rc_shard.specs.Knowing.{IsCachedWhole, IsPartitionListed, IsPastNow}
 use Rattle.rc_shard.specs.Releasing.{IsSnapGivenBack}
 
@@ -115,23 +115,24 @@ pub record IsReadOfFirst (files : Option Files) (f : Tabled) (o : PartitionReade
   pub mutation : IsMutation read
   pub fits : ChangeFits f.schema read
 
--- what was read was put into the row cache in place of the chain of which a reader holds a snapshot, which no entry has any more
+-- what was read was put into the row cache in place of what that had of a reader's partition, and no entry has the chain of which the reader holds a snapshot
 pub record IsPutInPlace (o : PartitionReader) (k k' : Shard) : Type 0 where
-  pub holds : HoldsCached k.cache.entries o
+  pub snap : Snap
+  pub held : cached_of o ≡ Some snap
   pub whole : NoneLost (losses k.unstored.chains) (losses k'.unstored.chains) → IsCachedWhole k' o.key
-  pub apart : (key : List ℕ) → entry_number k'.cache.entries key ≡ Some holds.snap.chain → ⊥
+  pub apart : (key : List ℕ) → entry_number k'.cache.entries key ≡ Some snap.chain → ⊥
 
--- so it was; or the reader holds no snapshot of what the row cache has, and nothing changed
+-- so it was; or the reader may put nothing there, and nothing changed
 abbrev pub IsRefilled : PartitionReader → Shard → Shard → Type 0
-IsRefilled o k k' = ((HoldsCached k.cache.entries o → ⊥) × (k' ≡ k)) ⊎ IsPutInPlace o k k'
+IsRefilled o k k' = ((MayRefill k.folder.infos o → ⊥) × (k' ≡ k)) ⊎ IsPutInPlace o k k'
 
 -- something of a partition could be evicted, or a snapshot is of another chain
 abbrev pub IsSparedPast : Option Snap → Shard → List ℕ → Type 0
 IsSparedPast snap k key = IsPartitionListed k key ⊎ IfSome snap (λ s. entry_number k.cache.entries key ≡ Some s.chain → ⊥)
 
--- once lines were given past it the row cache knows all of a reader's partition, where the reader held a snapshot of what it had of it, and nothing was lost
+-- once lines were given past it the row cache knows all of a reader's partition, where the reader might put there what it missed, and nothing was lost
 abbrev pub IsPutPast : PartitionReader → Reply → Shard → Shard → Type 0
-IsPutPast o (Given lines more) k k' = NoneLost (losses k.unstored.chains) (losses k'.unstored.chains) → HoldsCached k.cache.entries o → IsCachedWhole k' o.key
+IsPutPast o (Given lines more) k k' = NoneLost (losses k.unstored.chains) (losses k'.unstored.chains) → MayRefill k.folder.infos o → IsCachedWhole k' o.key
 IsPutPast o reply k k' = ⊤
 
 -- the reader of an id reads past the row cache now, and the rows that it gave are the most recent ones there

@@ -37,6 +37,13 @@ returns-in-Ok-Some-clause-held c = λ none.
     let whole = subst (λ o. IfSome o (λ s. NoneLost (losses old) (losses new) → IsHeldWhole new s)) c.in-Ok-Some.field-0-is c.in-Ok-Some.ensures.whole in
     (whole none).known.static_row
 
+pub returns-in-Ok-None-clause-caught : goal.returns-in-Ok-None-clause-caught
+returns-in-Ok-None-clause-caught c =
+    let old = c.args.self.now.unstored.chains in
+    let new = c.take_populated.new.chains in
+    let skips = subst (λ o. IfNone o (NoneLost old.counts.skipped new.counts.skipped → ⊥)) c.in-Ok-None.field-0-is c.in-Ok-None.ensures.skips in
+    if-ok-all c.stream_read.result _ (λ source none. absurd (skips none))
+
 pub returns-in-Ok-None-clause-held : goal.returns-in-Ok-None-clause-held
 returns-in-Ok-None-clause-held c =
     let b = c.take_populated.new.cache.entries in

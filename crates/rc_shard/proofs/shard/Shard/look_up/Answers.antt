@@ -28,7 +28,7 @@ returns-clause-keeps c = λ files m s.
     let rest = rest-of (snap_taken c.take_known.result) k.unstored.chains c.take_known.new.chains (beside-of c.take_known.result k.unstored.chains c.take_known.new.chains c.take_known.ensures.rest c.take_known.ensures.rest_err) in
     let cached = cached-looked (number_of_snaps (snap_taken c.take_known.result)) k.folder.schema k.cache.entries c.take_known.new.cache.entries k.unstored.chains c.take_known.new.chains m rest (λ schema below says. c.take_known.ensures.says schema below says) c.take_known.ensures.entries c.take_known.ensures.forgotten s.cached in
     used-for _ c.a_reader_stays.ensures (λ schema u n writes later. c.what_leaves_the_chains_of_both_leaves_their_writes.ensures.beside 131072 schema u n writes later)
-    files k.folder k.unstored c.take_known.new.chains k.cache.entries c.take_known.new.cache.entries k.readers.items k.segments (number_of_snaps (snap_taken c.take_known.result)) m rest cached s (λ id pin h. refl)
+    files k.folder k.unstored c.take_known.new.chains k.cache.entries c.take_known.new.cache.entries k.readers.items k.segments (number_of_snaps (snap_taken c.take_known.result)) m rest cached s (λ id pin h. refl) (λ id pin there key found. (c.take_known.ensures.forgotten.left key id found).0)
 
 pub returns-clause-beside : goal.returns-clause-beside
 returns-clause-beside c = record { rest = beside-of c.take_known.result c.args.self.now.unstored.chains c.take_known.new.chains c.take_known.ensures.rest c.take_known.ensures.rest_err; keys = record { sealed = refl; active = refl }; folder = refl; readers = refl; answered = refl; segments = refl; asked = refl }

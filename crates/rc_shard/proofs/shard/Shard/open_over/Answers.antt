@@ -8,10 +8,11 @@ use Rattle.rc_shard.specs.declared.shard.Shard.{Shard}
 use Rattle.rc_shard.specs.Readers.{written_snaps_of}
 use Rattle.rc_shard.proofs.Closing.{past-rest}
 use Rattle.rc_shard.proofs.Known.{known-where}
-use Rattle.rc_shard.proofs.Looking.{head-taken, held-opened, known-pinned, same-recency}
+use Rattle.rc_shard.proofs.Looking.{cached-opened, head-taken, held-opened, known-pinned, same-recency}
 use Rattle.rc_shard.proofs.Losing.{pinned-loses}
 use Rattle.rc_shard.proofs.Opened.{none-ok}
-use Rattle.rc_shard.proofs.Opening.{not-opened, opens-reader, source-apart, source-read, source-there, tells-of, told-writes}
+use Rattle.rc_shard.proofs.Latest.{latest-opened}
+use Rattle.rc_shard.proofs.Opening.{not-opened, opens-reader, source-apart, source-of-key, source-read, source-there, tells-of, told-writes}
 use Rattle.rc_shard.proofs.Places.{nowhere-of}
 use Rattle.rc_shard.proofs.Rereading.{found-behind}
 use Rattle.rc_shard.proofs.Standing.{kept-itself, on-err}
@@ -64,8 +65,18 @@ returns-clause-opened c = λ files m s of.
       told.of_tables,
       opens-reader _ c.a_reader_stays.ensures files k new c.args.id key c.args.opening.slice x source (λ writes later. c.both_say_what_was_written.ensures.changes key writes later)
           c.requires.unused refl refl refl c.in-Ok.ensures.items (λ schema. t.kept schema) told.said (λ schema writes later below h of_writes of_later of_tables tells. t.gives schema writes later below told.said h of_writes of_later of_tables tells)
-          t.held t.snap t.key (t.tables ∙ c.requires.tables) t.fresh (source-apart k m key source of) m s told.of_tables told.tells told.fits,
+          t.held t.snap t.key (t.tables ∙ c.requires.tables) t.fresh (source-apart k m key source of) (source-of-key k m key source of s.cached.are) m s told.of_tables told.tells told.fits,
     )
+
+pub returns-clause-caught : goal.returns-clause-caught
+returns-clause-caught c = λ m is some.
+    let k = c.args.self.now in
+    let id = c.args.id in
+    let x : PartitionReader = c.in_ok-opened.opened in
+    let new : Shard = record k { unstored = c.open_in.new.unstored; readers = c.push.new.self } in
+    let t = c.in_ok-opened.ensures in
+    let found : lookup (λ q. q == id) c.push.new.self.items ≡ Some x = ap (λ (os : List (ℕ × PartitionReader)). lookup (λ q. q == id) os) c.in-Ok.ensures.items ∙ found-behind id x k.readers.items (nowhere-of id k.readers.items c.requires.unused) in
+    cached-opened k new m id c.args.opening.key x c.args.source is some t.snap refl t.key found (latest-opened k.folder.infos x (t.tables ∙ c.requires.tables))
 
 pub returns-clause-held : goal.returns-clause-held
 returns-clause-held c = λ m is known.
@@ -79,6 +90,7 @@ returns-clause-held c = λ m is known.
     let found : lookup (λ q. q == id) c.push.new.self.items ≡ Some x = ap (λ (os : List (ℕ × PartitionReader)). lookup (λ q. q == id) os) c.in-Ok.ensures.items ∙ found-behind id x k.readers.items (nowhere-of id k.readers.items c.requires.unused) in
     held-opened k new m id c.args.opening.key x c.args.source is known t.snap refl t.key found
     (λ s on head. (let first = head-taken k.unstored.chains took.0 snaps.sealed s took.1 on head in (head-taken took.0 c.open_in.new.unstored.chains snaps.active s took.2 first.0 first.1).1))
+    (latest-opened k.folder.infos x (t.tables ∙ c.requires.tables))
 
 pub returns-clause-stays : goal.returns-clause-stays
 returns-clause-stays c = λ q.

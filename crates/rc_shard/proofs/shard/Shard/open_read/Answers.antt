@@ -8,7 +8,7 @@ use Rattle.rc_machine.specs.Steps.{most_readers}
 use Rattle.rc_lookup.specs.Crowds.{loses-before}
 use Rattle.rc_shard.proofs.Losing.{crowded-since}
 use Rattle.rc_shard.proofs.Counted.{counts-itself, counts-reserved}
-use Rattle.rc_shard.proofs.Looking.{counts-behind, counts-used, lost-within, no-count, on-ok, on-ok-weaker, rest-of}
+use Rattle.rc_shard.proofs.Looking.{counts-behind, counts-used, lost-within, no-count, on-ok, on-ok-weaker, rest-of, skipped-within}
 use Rattle.rc_shard.specs.Readers.{number_of_snaps}
 use Rattle.rc_shard.specs.Using.{LeavesBeside}
 use Rattle.rc_shard.specs.calls.Looking.{AreKnownStill, IsSourceIn, UnlessMemory, source_taken}
@@ -17,8 +17,8 @@ use Rattle.rc_shard.proofs.Known.{known-itself, known-reserved, on-opened, on-un
 use Rattle.rc_shard.proofs.Opening.{opened-by}
 use Rattle.rc_shard.proofs.Pinned.{filled-opened, filled-unread, recent-opened, recent-unread, told-opened, told-unread}
 use Rattle.rc_shard.proofs.Places.{nowhere-of, open-none, open-some}
-use Rattle.rc_shard.specs.Filling.{IsHeldByReader}
-use Rattle.rc_shard.proofs.Standing.{if-ok-both, on-each, on-err, taken-as}
+use Rattle.rc_shard.specs.Filling.{IsCachedByReader, IsHeldByReader}
+use Rattle.rc_shard.proofs.Standing.{if-ok-both, if-ok-weaker, on-each, on-err, taken-as}
 use Rattle.rc_shard.proofs.Taking.{opened-of, stands-reserved, takes-in-use, takes-too-many, unread-faults, unread-of}
 use Rattle.rc_shard.proofs.shard.Shard.open_read.Goals as goal
 
@@ -123,11 +123,14 @@ returns-in-Ok-clause-filled g c =
     let s = stands-reserved _ (g.W.Store.files c.args.store.now) k c.reserve.new.self c.requires.0 c.reserve.ensures.items c.requires.1 in
     let is = subst (λ (q : List ℕ). IsSourceIn l c.requires.0 q c.in-Ok.source) (sym (ap (λ (o : Opening). o.key) c.in_ok-opening.ensures)) (c.in-Ok.ensures.says c.requires.0 s) in
     let unlost = lost-within k.unstored.chains k.unstored.chains l.unstored.chains k2.unstored.chains (no-count k.unstored.chains) (rest-of _ k.unstored.chains l.unstored.chains c.source_of.ensures.beside.rest).counts c.open_over.ensures.counts.none_fell in
+    let unskipped = skipped-within k.unstored.chains k.unstored.chains l.unstored.chains k2.unstored.chains (no-count k.unstored.chains) (rest-of _ k.unstored.chains l.unstored.chains c.source_of.ensures.beside.rest).counts c.open_over.ensures.counts.none_fell in
     filled-opened c.args.id key c.args.slice.now k (g.W.Store.asks c.args.store.now) (g.W.Store.asks c.source_of.new.store) k2 c.open_over.result c.open_over.ensures.fine
+    (if-ok-both c.open_over.result _ _ _ (λ reads known. (reads, known))
+    (if-ok-weaker c.open_over.result _ _ (λ reply h none. subst (λ (q : List ℕ). IsCachedByReader c.args.id q k2) (ap (λ (o : Opening). o.key) c.in_ok-opening.ensures) (h (c.in-Ok.ensures.caught (unskipped none)))) (c.open_over.ensures.caught c.requires.0 is))
     (if-ok-both c.open_over.result _ _ _ (λ h t none. record {
       held = subst (λ (q : List ℕ). IsHeldByReader c.args.id q k2) (ap (λ (o : Opening). o.key) c.in_ok-opening.ensures) (h (c.in-Ok.ensures.held (unlost none)));
       whole = elim (c.in-Ok.ensures.whole (unlost none)) [ inl on ↦ inl on | inr all ↦ inr ((t key).whole all) ];
-    }) (c.open_over.ensures.held c.requires.0 is) c.open_over.ensures.stays)
+    }) (c.open_over.ensures.held c.requires.0 is) c.open_over.ensures.stays))
 
 pub returns-in-Err-clause-filled : goal.returns-in-Err-clause-filled
 returns-in-Err-clause-filled g c = filled-unread c.args.id c.args.key.now c.args.slice.now c.args.self.now (g.W.Store.asks c.args.store.now) (g.W.Store.asks c.source_of.new.store) c.source_of.new.self c.in-Err.error c.not_read.result c.not_read.ensures

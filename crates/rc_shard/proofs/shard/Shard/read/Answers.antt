@@ -180,7 +180,7 @@ returns-in-Err-Missing-clause-filled g c =
     let here = is-there k id at place in
     let b = c.page.ensures.beside in
     let kept = b.kept d here in
-    if-ok-weaker c.read_past.result _ _ (λ reply put. filled-past id c.args.count at d b.reader.1 reply (g.W.Store.asks c.args.store.now) (g.W.Store.asks c.read_past.new.store) k mid c.read_past.new.self p here (untold-of at k mid b) kept.1 (ap (λ (h : HeldSnaps). h.cached) kept.3) put)
+    if-ok-weaker c.read_past.result _ _ (λ reply put. filled-past id c.args.count at d b.reader.1 reply (g.W.Store.asks c.args.store.now) (g.W.Store.asks c.read_past.new.store) k mid c.read_past.new.self p here (untold-of at k mid b) kept.1 kept.2 (ap (λ (h : HeldSnaps). h.cached) kept.3) put)
     (c.read_past.ensures.filled b.reader (there-now k mid id at b.reader p b.readers))
 
 pub returns-in-Err-Missing-clause-crowds : goal.returns-in-Err-Missing-clause-crowds

@@ -23,6 +23,9 @@ fill-requires-clause-fits g c =
 pub returns-in-Ok-clause-says : goal.returns-in-Ok-clause-says
 returns-in-Ok-clause-says g c = λ m s. let a = c.in-Ok.ensures.said m s.over in c.fill.ensures.says (g.W.Store.files c.args.store.now) m a.0 s a.1 a.2
 
+pub returns-in-Ok-clause-caught : goal.returns-in-Ok-clause-caught
+returns-in-Ok-clause-caught g c = c.fill.ensures.caught
+
 pub returns-in-Ok-clause-held : goal.returns-in-Ok-clause-held
 returns-in-Ok-clause-held g c = c.fill.ensures.held
 

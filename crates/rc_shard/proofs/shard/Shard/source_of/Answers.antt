@@ -12,7 +12,7 @@ use Rattle.rc_shard.specs.Readers.{number_of_snaps}
 use Rattle.rc_shard.proofs.Standing.{if-ok-weaker, taken-as}
 use Rattle.rc_shard.specs.calls.Looking.{AreKnownStill, IsCacheUsed, IsEntrySnapshot, snap_taken, source_taken}
 use Rattle.rc_shard.proofs.Known.{known-then, unless-weaker}
-use Rattle.rc_shard.proofs.Looking.{lost-within, no-count, none-some, on-ok, on-ok-weaker, rest-of, used-then}
+use Rattle.rc_shard.proofs.Looking.{lost-within, no-count, none-some, on-ok, on-ok-weaker, rest-of, skipped-within, used-then}
 use Rattle.rc_shard.proofs.shard.Shard.source_of.Goals as goal
 
 pub read_tables-requires : goal.read_tables-requires
@@ -29,6 +29,13 @@ returns-in-Ok-None-clause-known g c = λ on. absurd (none-some None refl (subst 
 
 pub returns-in-Ok-Some-clause-held : goal.returns-in-Ok-Some-clause-held
 returns-in-Ok-Some-clause-held g c = λ none. (subst (λ r. IfOk r (λ o. IfSome o (λ (s : Snap). KnowsStaticRow c.look_up.new.self.unstored.chains s × IsStaticCached c.args.self.now c.args.key.now))) (c.in-Ok-Some.is ∙ ap Ok c.in-Ok-Some.field-0-is) c.look_up.ensures.head).0
+
+pub returns-in-Ok-None-clause-caught : goal.returns-in-Ok-None-clause-caught
+returns-in-Ok-None-clause-caught g c =
+    let old = c.args.self.now.unstored.chains in
+    let mid = c.look_up.new.self.unstored.chains in
+    let new = c.read_tables.new.self.unstored.chains in
+    if-ok-weaker c.read_tables.result _ _ (λ source h none. h (skipped-within old mid new new (rest-of _ old mid c.look_up.ensures.beside.rest).counts (rest-of _ mid new c.read_tables.ensures.beside.rest).counts (no-count new) none)) c.read_tables.ensures.caught
 
 pub returns-in-Ok-None-clause-held : goal.returns-in-Ok-None-clause-held
 returns-in-Ok-None-clause-held g c =

@@ -1,1 +1,0 @@
--- Both are there, and are the same; or one is not, or they differ.
