@@ -120,7 +120,7 @@ pub fn a_cached_stream_misses_only_what_is_not_known<const S: usize>()
     a_fill_takes_no_segment();
 }
 
-/// Where the snapshot of a cached stream may be filled, and nothing was lost meanwhile, what a call passed is known to it afterwards, and all that was known to it before.
+/// Where the snapshot of a cached stream may be filled, and nothing was lost meanwhile, what a call passed is known to it afterwards, and all that was known to it before. So is what a call passed that was answered while nothing was read below, whoever may fill the snapshot and whatever is lost.
 pub fn what_a_cached_stream_passed_is_known<const S: usize>()
     ensures passed { (s : Snapshot) (r : OfCache) (m : Memory) (w : Read) (c : Call) (ok : Bool) (t : OfCache) (n : Memory) (v : Read) → IsOfCached s r → ⟦<CacheReader<SnapshotReader, Underlying, StreamFiller> as Frags<Chains<S>, Readings>>⟧.did r m w c ok t n v →
         MayFill m s.chain s.pin → NoneLost (losses m) (losses n) → IsFilledFor c ok (Knows n s) (IsHeadSeen n s) (stand r.spot) (stand t.spot) }
@@ -128,6 +128,8 @@ pub fn what_a_cached_stream_passed_is_known<const S: usize>()
         MayFill m s.chain s.pin → NoneLost (losses m) (losses n) → (x : Pos) (there : There) → Knows m s x there → Knows n s x there }
     ensures may { (s : Snapshot) (r : OfCache) (m : Memory) (w : Read) (c : Call) (ok : Bool) (t : OfCache) (n : Memory) (v : Read) → IsOfCached s r → ⟦<CacheReader<SnapshotReader, Underlying, StreamFiller> as Frags<Chains<S>, Readings>>⟧.did r m w c ok t n v →
         MayFill m s.chain s.pin → MayFill n s.chain s.pin }
+    ensures unread { (s : Snapshot) (r : OfCache) (m : Memory) (w : Read) (c : Call) (t : OfCache) (n : Memory) (v : Read) → IsOfCached s r → ⟦<CacheReader<SnapshotReader, Underlying, StreamFiller> as Frags<Chains<S>, Readings>>⟧.did r m w c true t n v →
+        read_below r w ≡ None → IsFilledFor c true (Knows n s) (IsHeadSeen n s) (stand r.spot) (stand t.spot) }
     ensures counted { (r : OfCache) (m : Memory) (w : Read) (c : Call) (ok : Bool) (t : OfCache) (n : Memory) (v : Read) → ⟦<CacheReader<SnapshotReader, Underlying, StreamFiller> as Frags<Chains<S>, Readings>>⟧.did r m w c ok t n v → losses m ≤ losses n }
 {
     a_cached_stream_leaves_what_others_see::<S>();

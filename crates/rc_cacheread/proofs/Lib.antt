@@ -14,3 +14,4 @@ pub mod Sought
 pub mod Stepping
 pub mod Streams
 pub mod Turning
+pub mod Unanswered

@@ -2,6 +2,8 @@
 --     IsAnswered     a stream as a call left it that was answered
 --     ReaderCall     a call of the snapshot, of the stream below, or of the filler
 --     ReaderFilled   what calls leave of what is known
+--     AnswersBelow   the stream below answers a call
+--     Unanswered     what a call leaves that was answered while the stream below answered none
 --     IsGoneTo       where a call for the head or a seek leaves the place
 --     ReaderDid      a call of a reader: which calls, none but the snapshot's where what is passed is known, and that it is known afterwards
 use Rattle.std.specs.Prelude.{◌≡◌, ◌⊎◌, ◌≤◌, Bool, true, false, ⊤, []}
@@ -10,7 +12,7 @@ use Rattle.rc_position.specs.Position.{IsBefore}
 use Rattle.rc_mutation.specs.declared.fragments.HeadAt.{HeadAt}
 use Rattle.rc_stream.specs.Did.{Call, InTurn, OfHead, OfNext, OfSeek}
 use Rattle.rc_stream.specs.Places.{Reaches}
-use Rattle.rc_stream.specs.Snapshot.{There, Unlost}
+use Rattle.rc_stream.specs.Snapshot.{SameKnown, There, Unlost}
 use Rattle.rc_cacheread.specs.declared.readers.CacheReader.{CacheReader}
 use Rattle.rc_cacheread.specs.Passing.{IsKnownFrom, IsKnownOver}
 use Rattle.rc_cacheread.specs.Sharing.{IsStaticRowKnown, OfBelow, OfFiller, OfKnown, StaysReader}
@@ -67,6 +69,17 @@ pub record ReaderFilled {K P H : Type 0} (kn : OfKnown K H) (fi : OfFiller P H) 
   pub static_row : Unlost (fi.may p h) (fi.lost h) (fi.lost g) (IsStaticRowKnown (kn.heads k h) → IsStaticRowKnown (kn.heads l g))
   pub now : Unlost (fi.may p h) (fi.lost h) (fi.lost g) this
 
+-- the stream below, as it is, answers a call over this store, over whichever home
+abbrev pub AnswersBelow : {F H W : Type 0} → OfBelow F H W → F → W → Type 0
+AnswersBelow {F} {H} {W} be f w = (d : Call) × (h : H) × (t : F) × (g : H) × (v : W) × be.did f h w d true t g v
+
+-- after an answered call, while the stream below answered none: that and the store are as they were, the snapshot knows what it knew, and this holds
+pub record Unanswered {K F P H W : Type 0} (kn : OfKnown K H) (r : CacheReader K F P) (h : H) (w : W) (n : CacheReader K F P) (g : H) (v : W) (this : Type 0) : Type 0 where
+  pub below : n.below ≡ r.below
+  pub store : v ≡ w
+  pub same : SameKnown (kn.knows r.known h) (kn.knows n.known g)
+  pub now : this
+
 -- an answered seek to x leaves the place where it was, or goes to x, which is not before it; and it goes there where nothing is due
 pub record IsSoughtTo (x : Pos) (s t : Spot) : Type 0 where
   pub stands : (stand t ≡ stand s) ⊎ (Reaches (stand s) x × (stand t ≡ x))
@@ -79,7 +92,7 @@ IsGoneTo (OfSeek x) true s t = IsSoughtTo x s t
 IsGoneTo (OfSeek x) false s t = stand t ≡ stand s
 IsGoneTo (OfNext y) ok s t = ⊤
 
--- a call of a reader is a chain of calls of its parts, a refused one last, and goes on, to the same end; where what it passes is known, of the snapshot alone, and it still is known; where the filler may fill and nothing was lost, what it passed is known afterwards; of the writes of which it was a reader it is one still
+-- a call of a reader is a chain of calls of its parts, a refused one last, and goes on, to the same end; where what it passes is known, of the snapshot alone, and it still is known; where the filler may fill and nothing was lost, what it passed is known afterwards; so it is where the stream below answered nothing; of the writes of which it was a reader it is one still
 pub record ReaderDid {K F P H W : Type 0} (kn : OfKnown K H) (be : OfBelow F H W) (fi : OfFiller P H) (r : CacheReader K F P) (h : H) (w : W) (c : Call) (ok : Bool) (n : CacheReader K F P) (g : H) (v : W) : Type 0 where
   pub calls : InTurn (ReaderCall kn be fi c) ok (reader_state r h w) (reader_state n g v)
   pub on : Reaches (stand r.spot) (stand n.spot)
@@ -87,6 +100,7 @@ pub record ReaderDid {K F P H W : Type 0} (kn : OfKnown K H) (be : OfBelow F H W
   pub to : n.to ≡ r.to
   pub quiet : IsKnownFor c (kn.knows r.known h) (kn.heads r.known h) (stand r.spot) r.to → CallsSnapshotAlone kn ok (reader_state r h w) (reader_state n g v) × IsKnownFor c (kn.knows n.known g) (kn.heads n.known g) (stand n.spot) n.to
   pub filled : ReaderFilled kn fi r.known r.filler h n.known n.filler g (IsFilledFor c ok (kn.knows n.known g) (kn.heads n.known g) (stand r.spot) (stand n.spot))
+  pub unanswered : ok ≡ true → (AnswersBelow be r.below w → ⊥) → Unanswered kn r h w n g v (IsFilledFor c ok (kn.knows n.known g) (kn.heads n.known g) (stand r.spot) (stand n.spot))
   pub stays : StaysReader kn be fi r h w n g v
 
 -- what calls of a reader may make of a home and a store: calls of its parts, whichever they are

@@ -1,5 +1,5 @@
 // A stretch that is not known is read below.
-ghost use Rattle.std.specs.Prelude.{◌≡◌, List, ⊤, IfOk, OnOk, true};
+ghost use Rattle.std.specs.Prelude.{◌≡◌, ◌⊎◌, List, ⊤, IfOk, OnOk, true};
 ghost use Rattle.rc_outside.specs.Files.{HoldsSameFiles};
 ghost use Rattle.rc_mutation.specs.declared.mutations.Mutation.{Mutation};
 ghost use Rattle.rc_position.specs.declared.positions.Pos.{Pos};
@@ -12,7 +12,7 @@ ghost use Rattle.rc_stream.specs.Snapshot.{SameKnown, SayThere, There};
 ghost use Rattle.rc_stream.specs.Stream.{Stream};
 ghost use Rattle.rc_cacheread.specs.declared.spots.RowAt.TheVariants.{Unread};
 ghost use Rattle.rc_cacheread.specs.calls.Below.{Fillings, IsNotAway, StaysLost, TakenIn, Tells, TookFound, found_of, near_of, sought_stage};
-ghost use Rattle.rc_cacheread.specs.Did.{ReaderCall, ReaderFilled, reader_state};
+ghost use Rattle.rc_cacheread.specs.Did.{AnswersBelow, ReaderCall, ReaderFilled, reader_state};
 ghost use Rattle.rc_cacheread.specs.calls.Did.{IsReaderStepUpto, ReaderStepSays};
 ghost use Rattle.rc_cacheread.specs.Passing.{IsKnownOver};
 ghost use Rattle.rc_cacheread.specs.Sharing.{IsReady, Sees, StaysReader, of_below, of_filler, of_known};
@@ -48,6 +48,7 @@ pub(crate) fn read_below<H, W: Store, K: Known<H>, F: Frags<H, W>, P: Filler<H>>
     ensures says { (s : Stream) → Sees (of_known K.ready K.place K.knows K.heads K.did) (of_below F.ready F.seen F.ahead F.moves F.did) (of_filler P.ready P.fits P.may P.lost P.stands P.knows P.knows_statics P.fills) reader.old home.old store.old s → ReaderStepSays result upto.now s (Sees (of_known K.ready K.place K.knows K.heads K.did) (of_below F.ready F.seen F.ahead F.moves F.did) (of_filler P.ready P.fits P.may P.lost P.stands P.knows P.knows_statics P.fills) reader.new home.new store.new) }
     ensures upto { IfOk result (IsReaderStepUpto upto.now) }
     ensures did { (y : Pos) → ReachesEnd (Sees (of_known K.ready K.place K.knows K.heads K.did) (of_below F.ready F.seen F.ahead F.moves F.did) (of_filler P.ready P.fits P.may P.lost P.stands P.knows P.knows_statics P.fills) reader.old home.old store.old) upto.now y → InTurn (ReaderCall (of_known K.ready K.place K.knows K.heads K.did) (of_below F.ready F.seen F.ahead F.moves F.did) (of_filler P.ready P.fits P.may P.lost P.stands P.knows P.knows_statics P.fills) (OfNext y)) (has_answer result) (reader_state reader.old home.old store.old) (reader_state reader.new home.new store.new) }
+    ensures answered { OnOk result (AnswersBelow (of_below F.ready F.seen F.ahead F.moves F.did) reader.old.below store.old) }
     ensures on { Reaches (stand reader.old.spot) (stand reader.new.spot) }
     ensures to { reader.new.to ≡ reader.old.to }
     ensures filled { ReaderFilled (of_known K.ready K.place K.knows K.heads K.did) (of_filler P.ready P.fits P.may P.lost P.stands P.knows P.knows_statics P.fills) reader.old.known reader.old.filler home.old reader.new.known reader.new.filler home.new (IsKnownOver (K.knows reader.new.known home.new) (stand reader.old.spot) (stand reader.new.spot)) }
@@ -81,6 +82,7 @@ fn settle<H, W: Store, K: Known<H>, F: Frags<H, W>, P: Filler<H>>(
     requires missing { (v : There) → K.knows reader.old.known home.old reader.old.spot.place v → ⊥ }
     ensures says { (s : Stream) → Sees (of_known K.ready K.place K.knows K.heads K.did) (of_below F.ready F.seen F.ahead F.moves F.did) (of_filler P.ready P.fits P.may P.lost P.stands P.knows P.knows_statics P.fills) reader.old home.old store.old s → Sees (of_known K.ready K.place K.knows K.heads K.did) (of_below F.ready F.seen F.ahead F.moves F.did) (of_filler P.ready P.fits P.may P.lost P.stands P.knows P.knows_statics P.fills) reader.new home.new store.new s }
     ensures did { (y : Pos) → Reaches reader.old.spot.place y → InTurn (ReaderCall (of_known K.ready K.place K.knows K.heads K.did) (of_below F.ready F.seen F.ahead F.moves F.did) (of_filler P.ready P.fits P.may P.lost P.stands P.knows P.knows_statics P.fills) (OfNext y)) (has_answer result) (reader_state reader.old home.old store.old) (reader_state reader.new home.new store.new) }
+    ensures answered { OnOk result (AnswersBelow (of_below F.ready F.seen F.ahead F.moves F.did) reader.old.below store.old ⊎ ((reader.new.below ≡ reader.old.below) × (store.new ≡ store.old))) }
     ensures stage { OnOk result (IsNotAway reader.new.stage) }
     ensures spot { reader.new.spot ≡ reader.old.spot }
     ensures lags { reader.new.lags ≡ reader.old.lags }
@@ -134,6 +136,7 @@ fn look_here<H, W: Store, K: Known<H>, F: Frags<H, W>, P: Filler<H>>(
     ensures says { (s : Stream) → Sees (of_known K.ready K.place K.knows K.heads K.did) (of_below F.ready F.seen F.ahead F.moves F.did) (of_filler P.ready P.fits P.may P.lost P.stands P.knows P.knows_statics P.fills) reader.old home.old store.old s → ReaderStepSays result upto.now s (Sees (of_known K.ready K.place K.knows K.heads K.did) (of_below F.ready F.seen F.ahead F.moves F.did) (of_filler P.ready P.fits P.may P.lost P.stands P.knows P.knows_statics P.fills) reader.new home.new store.new) }
     ensures upto { IfOk result (IsReaderStepUpto upto.now) }
     ensures did { (y : Pos) → ReachesEnd (Sees (of_known K.ready K.place K.knows K.heads K.did) (of_below F.ready F.seen F.ahead F.moves F.did) (of_filler P.ready P.fits P.may P.lost P.stands P.knows P.knows_statics P.fills) reader.old home.old store.old) upto.now y → InTurn (ReaderCall (of_known K.ready K.place K.knows K.heads K.did) (of_below F.ready F.seen F.ahead F.moves F.did) (of_filler P.ready P.fits P.may P.lost P.stands P.knows P.knows_statics P.fills) (OfNext y)) (has_answer result) (reader_state reader.old home.old store.old) (reader_state reader.new home.new store.new) }
+    ensures answered { OnOk result (AnswersBelow (of_below F.ready F.seen F.ahead F.moves F.did) reader.old.below store.old) }
     ensures on { Reaches (stand reader.old.spot) (stand reader.new.spot) }
     ensures to { reader.new.to ≡ reader.old.to }
     ensures filled { ReaderFilled (of_known K.ready K.place K.knows K.heads K.did) (of_filler P.ready P.fits P.may P.lost P.stands P.knows P.knows_statics P.fills) reader.old.known reader.old.filler home.old reader.new.known reader.new.filler home.new (IsKnownOver (K.knows reader.new.known home.new) (stand reader.old.spot) (stand reader.new.spot)) }
@@ -174,6 +177,7 @@ fn go_below<H, W: Store, K: Known<H>, F: Frags<H, W>, P: Filler<H>>(
     ensures says { (s : Stream) → Sees (of_known K.ready K.place K.knows K.heads K.did) (of_below F.ready F.seen F.ahead F.moves F.did) (of_filler P.ready P.fits P.may P.lost P.stands P.knows P.knows_statics P.fills) reader.old home.old store.old s → ReaderStepSays result upto.now s (Sees (of_known K.ready K.place K.knows K.heads K.did) (of_below F.ready F.seen F.ahead F.moves F.did) (of_filler P.ready P.fits P.may P.lost P.stands P.knows P.knows_statics P.fills) reader.new home.new store.new) }
     ensures upto { IfOk result (IsReaderStepUpto upto.now) }
     ensures did { (y : Pos) → ReachesEnd (Sees (of_known K.ready K.place K.knows K.heads K.did) (of_below F.ready F.seen F.ahead F.moves F.did) (of_filler P.ready P.fits P.may P.lost P.stands P.knows P.knows_statics P.fills) reader.old home.old store.old) upto.now y → InTurn (ReaderCall (of_known K.ready K.place K.knows K.heads K.did) (of_below F.ready F.seen F.ahead F.moves F.did) (of_filler P.ready P.fits P.may P.lost P.stands P.knows P.knows_statics P.fills) (OfNext y)) (has_answer result) (reader_state reader.old home.old store.old) (reader_state reader.new home.new store.new) }
+    ensures answered { OnOk result (AnswersBelow (of_below F.ready F.seen F.ahead F.moves F.did) reader.old.below store.old) }
     ensures on { Reaches (stand reader.old.spot) (stand reader.new.spot) }
     ensures to { reader.new.to ≡ reader.old.to }
     ensures filled { ReaderFilled (of_known K.ready K.place K.knows K.heads K.did) (of_filler P.ready P.fits P.may P.lost P.stands P.knows P.knows_statics P.fills) reader.old.known reader.old.filler home.old reader.new.known reader.new.filler home.new (IsKnownOver (K.knows reader.new.known home.new) (stand reader.old.spot) (stand reader.new.spot)) }

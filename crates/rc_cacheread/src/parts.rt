@@ -1,5 +1,5 @@
 // The parts of a snapshot.
-ghost use Rattle.std.specs.Prelude.{◌≡◌, false, IfOk, OnErr, OnOk};
+ghost use Rattle.std.specs.Prelude.{◌≡◌, ◌⊎◌, false, IfOk, OnErr, OnOk};
 ghost use Rattle.std.specs.Result.{is_ok};
 ghost use Rattle.rc_outside.specs.Files.{HoldsSameFiles};
 ghost use Rattle.rc_position.specs.declared.positions.Pos.{Pos};
@@ -10,7 +10,7 @@ ghost use Rattle.rc_stream.specs.Places.{Reaches};
 ghost use Rattle.rc_stream.specs.Showing.{Blames};
 ghost use Rattle.rc_stream.specs.Snapshot.{IsPartFrom, SameKnown, There, place_behind};
 ghost use Rattle.rc_stream.specs.Stream.{Stream};
-ghost use Rattle.rc_cacheread.specs.Did.{CallsSnapshotAlone, KnownStep, ReaderCall, ReaderFilled, reader_state};
+ghost use Rattle.rc_cacheread.specs.Did.{AnswersBelow, CallsSnapshotAlone, KnownStep, ReaderCall, ReaderFilled, reader_state};
 ghost use Rattle.rc_cacheread.specs.calls.Did.{IsReaderStepUpto, ReaderStepSays};
 ghost use Rattle.rc_cacheread.specs.Passing.{IsKnownOver};
 ghost use Rattle.rc_cacheread.specs.calls.Passing.{PassesWhole};
@@ -98,6 +98,8 @@ pub(crate) fn read_part<H, W: Store, K: Known<H>, F: Frags<H, W>, P: Filler<H>>(
     ensures quiet { (v : There) → K.knows reader.old.known home.old reader.old.spot.place v → CallsSnapshotAlone (of_known K.ready K.place K.knows K.heads K.did) (has_answer result) (reader_state reader.old home.old store.old) (reader_state reader.new home.new store.new) }
     ensures keeps { (v : There) → K.knows reader.old.known home.old reader.old.spot.place v → SameKnown (K.knows reader.old.known home.old) (K.knows reader.new.known home.new) }
     ensures whole { (v : There) → K.knows reader.old.known home.old reader.old.spot.place v → PassesWhole (K.knows reader.old.known home.old) (stand reader.old.spot) (stand reader.new.spot) }
+    ensures answered { OnOk result (AnswersBelow (of_below F.ready F.seen F.ahead F.moves F.did) reader.old.below store.old ⊎ ((v : There) × K.knows reader.old.known home.old reader.old.spot.place v)) }
+    ensures passed { (v : There) → K.knows reader.old.known home.old reader.old.spot.place v → IsKnownOver (K.knows reader.new.known home.new) (stand reader.old.spot) (stand reader.new.spot) }
     ensures on { Reaches (stand reader.old.spot) (stand reader.new.spot) }
     ensures to { reader.new.to ≡ reader.old.to }
     ensures filled { ReaderFilled (of_known K.ready K.place K.knows K.heads K.did) (of_filler P.ready P.fits P.may P.lost P.stands P.knows P.knows_statics P.fills) reader.old.known reader.old.filler home.old reader.new.known reader.new.filler home.new (IsKnownOver (K.knows reader.new.known home.new) (stand reader.old.spot) (stand reader.new.spot)) }

@@ -1,5 +1,5 @@
 // A reader over a snapshot that is known in part.
-ghost use Rattle.std.specs.Prelude.{◌≡◌, false, IfOk, IfSome, IsTrue};
+ghost use Rattle.std.specs.Prelude.{◌≡◌, false, IfOk, IfSome, IsTrue, OnOk};
 ghost use Rattle.rc_outside.specs.Files.{HoldsSameFiles};
 ghost use Rattle.rc_position.specs.declared.positions.Pos.{Pos};
 ghost use Rattle.rc_stream.specs.Leaving.{left_by};
@@ -7,7 +7,7 @@ ghost use Rattle.rc_stream.specs.Causes.{Caused};
 ghost use Rattle.rc_stream.specs.Did.{InTurn, ReachesEnd, has_answer, Call.OfHead, Call.OfNext};
 ghost use Rattle.rc_stream.specs.Showing.{Blames};
 ghost use Rattle.rc_stream.specs.Stream.{Stream, first_upto, is_upto};
-ghost use Rattle.rc_cacheread.specs.Did.{IsFilledFor, ReaderCall, ReaderDid, ReaderFilled, reader_state};
+ghost use Rattle.rc_cacheread.specs.Did.{AnswersBelow, IsFilledFor, ReaderCall, ReaderDid, ReaderFilled, reader_state};
 ghost use Rattle.rc_cacheread.specs.calls.Did.{IsReaderStepUpto, ReaderStepSays};
 ghost use Rattle.rc_cacheread.specs.Making.{IsNewReader};
 ghost use Rattle.rc_cacheread.specs.Sharing.{IsReady, Sees, StaysReader, of_below, of_filler, of_known};
@@ -180,6 +180,7 @@ fn head_below<H, W: Store, K: Known<H>, F: Frags<H, W>, P: Filler<H>>(
     ensures head { (s : Stream) → Sees (of_known K.ready K.place K.knows K.heads K.did) (of_below F.ready F.seen F.ahead F.moves F.did) (of_filler P.ready P.fits P.may P.lost P.stands P.knows P.knows_statics P.fills) reader.old home.old store.old s → IfOk result (λ head. head ≡ s.head) }
     ensures seen { (s : Stream) → Sees (of_known K.ready K.place K.knows K.heads K.did) (of_below F.ready F.seen F.ahead F.moves F.did) (of_filler P.ready P.fits P.may P.lost P.stands P.knows P.knows_statics P.fills) reader.old home.old store.old s → Sees (of_known K.ready K.place K.knows K.heads K.did) (of_below F.ready F.seen F.ahead F.moves F.did) (of_filler P.ready P.fits P.may P.lost P.stands P.knows P.knows_statics P.fills) reader.new home.new store.new s }
     ensures calls { InTurn (ReaderCall (of_known K.ready K.place K.knows K.heads K.did) (of_below F.ready F.seen F.ahead F.moves F.did) (of_filler P.ready P.fits P.may P.lost P.stands P.knows P.knows_statics P.fills) OfHead) (has_answer result) (reader_state reader.old home.old store.old) (reader_state reader.new home.new store.new) }
+    ensures answered { OnOk result (AnswersBelow (of_below F.ready F.seen F.ahead F.moves F.did) reader.old.below store.old) }
     ensures spot { reader.new.spot ≡ reader.old.spot }
     ensures to { reader.new.to ≡ reader.old.to }
     ensures filled { ReaderFilled (of_known K.ready K.place K.knows K.heads K.did) (of_filler P.ready P.fits P.may P.lost P.stands P.knows P.knows_statics P.fills) reader.old.known reader.old.filler home.old reader.new.known reader.new.filler home.new (IsFilledFor OfHead (has_answer result) (K.knows reader.new.known home.new) (K.heads reader.new.known home.new) (stand reader.old.spot) (stand reader.new.spot)) }

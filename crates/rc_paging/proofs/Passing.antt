@@ -1,26 +1,23 @@
 -- What a cached stream passed is known to its snapshot, where nothing is read below it.
-use Rattle.std.proofs.Common.{◌≡◌, ◌<◌, ℕ, Bool, true, false, Option, Some, None, sym, ap, subst}
+use Rattle.std.proofs.Common.{◌≡◌, ℕ, Bool, true, false, Option, Some, None, sym, ap, subst}
 use Rattle.std.specs.Option.{IfSome}
 use Rattle.rc_position.specs.declared.positions.Pos.{Pos}
 use Rattle.rc_memory.specs.Memory.{Memory}
 use Rattle.rc_chain.specs.declared.chains.Snap.{Snap}
 use Rattle.rc_stream.specs.Did.{Call, Call.OfHead, Call.OfNext, Call.OfSeek, InTurn}
 use Rattle.rc_stream.specs.Places.{Reaches}
-use Rattle.rc_stream.specs.Snapshot.{NoneLost, most_counted}
 use Rattle.rc_stream.specs.laws.Ordered.{passes-itself}
-use Rattle.rc_filler.specs.Fillers.{losses}
 use Rattle.rc_cursor.specs.Snapshots.{IsHeadSeen, Knows}
-use Rattle.rc_cacheread.specs.Did.{IsFilledFor}
+use Rattle.rc_cacheread.specs.Did.{AnswersBelow, IsFilledFor}
 use Rattle.rc_cacheread.specs.Passing.{IsKnownOver}
 use Rattle.rc_cacheread.specs.Sharing.{IsStaticRowKnown}
 use Rattle.rc_cacheread.specs.Spots.{stand}
 use Rattle.rc_cacheread.specs.laws.Orders.{reach-through}
 use Rattle.rc_cacheread.specs.laws.Passing.{over-nothing, over-over}
 use Rattle.rc_reader.specs.Steps.{OneStep, OpenCalls}
-use Rattle.rc_cached.specs.declared.fillers.StreamFiller.{StreamFiller}
 use Rattle.rc_cached.specs.declared.readings.Readings.{Readings}
-use Rattle.rc_cached.specs.Filling.{MayFill}
 use Rattle.rc_cached.specs.Streams.{IsOfCached, OfCache, read_below}
+use Rattle.rc_cached.specs.calls.Parts.{of_underlying}
 use Rattle.rc_paging.specs.Optional.{WithBoth}
 use Rattle.rc_paging.specs.calls.Keeping.{ArePassed, ArePassedWhole, IsPlacedAt, IsStreamPassed, IsStreamPassedWhole, Three}
 use Rattle.rc_paging.specs.calls.Layers.{IsCacheLayerOf, OfLayers, cached_in}
@@ -51,19 +48,17 @@ module _ (S : ℕ) (laws : CallLaws S) (x y : Pos) where
     unread : read_below b v ≡ None
     unread = let e = laws.unread a m w c ok b n v d h.unread in unread_still a b w v h.unread e.1 e.2
 
-    may_fill : MayFill n h.snap.chain h.snap.pin → MayFill m a.filler.filler.chain a.filler.filler.pin
-    may_fill may = subst (λ (f : StreamFiller). MayFill m f.filler.chain f.filler.pin) (sym h.of.filler) (subst (λ z. MayFill z h.snap.chain h.snap.pin) home may)
-
-    none_lost : losses n < most_counted → NoneLost (losses m) (losses n)
-    none_lost low = (ap losses (sym home), low)
+    -- no call is answered below
+    none_below : AnswersBelow {H = Memory} of_underlying a.below w → ⊥
+    none_below (c, g, t, i, u, did) = let e = did.refused h.unread in absurd (cc)
 
     -- what the call passed is known
-    passed_now : MayFill n h.snap.chain h.snap.pin → losses n < most_counted → IsFilledFor c ok (Knows n h.snap) (IsHeadSeen n h.snap) (stand a.spot) (stand b.spot)
-    passed_now may low = subst (λ z. IsFilledFor c ok (Knows n z) (IsHeadSeen n z) (stand a.spot) (stand b.spot)) of.snap (d.filled.now (may_fill may) (none_lost low))
+    passed_now : ok ≡ true → IsFilledFor c ok (Knows n h.snap) (IsHeadSeen n h.snap) (stand a.spot) (stand b.spot)
+    passed_now answered = subst (λ z. IsFilledFor c ok (Knows n z) (IsHeadSeen n z) (stand a.spot) (stand b.spot)) of.snap (d.unanswered answered none_below).now
 
     -- what was passed before is known still
-    passed_before : MayFill n h.snap.chain h.snap.pin → losses n < most_counted → IsKnownOver (Knows n h.snap) x (stand a.spot)
-    passed_before = subst (λ z. MayFill z h.snap.chain h.snap.pin → losses z < most_counted → IsKnownOver (Knows z h.snap) x (stand a.spot)) (sym home) h.each
+    passed_before : IsKnownOver (Knows n h.snap) x (stand a.spot)
+    passed_before = subst (λ z. IsKnownOver (Knows z h.snap) x (stand a.spot)) (sym home) h.each
 
     -- where it stands where it stood
     abbrev stood : stand b.spot ≡ stand a.spot → IsStreamPassed x n v b
@@ -72,23 +67,23 @@ module _ (S : ℕ) (laws : CallLaws S) (x y : Pos) where
       of = of;
       unread = unread;
       on = subst (Reaches x) (sym st) h.on;
-      each = λ may low. subst (IsKnownOver (Knows n h.snap) x) (sym st) (passed_before may low);
+      each = subst (IsKnownOver (Knows n h.snap) x) (sym st) passed_before;
     }
 
-    static_still : (MayFill m h.snap.chain h.snap.pin → losses m < most_counted → IsStaticRowKnown (IsHeadSeen m h.snap)) → MayFill n h.snap.chain h.snap.pin → losses n < most_counted → IsStaticRowKnown (IsHeadSeen n h.snap)
-    static_still k = subst (λ z. MayFill z h.snap.chain h.snap.pin → losses z < most_counted → IsStaticRowKnown (IsHeadSeen z h.snap)) (sym home) k
+    static_still : IsStaticRowKnown (IsHeadSeen m h.snap) → IsStaticRowKnown (IsHeadSeen n h.snap)
+    static_still = subst (λ z. IsStaticRowKnown (IsHeadSeen z h.snap)) (sym home)
 
   pub next_passed : Keeps S Whatever (OfNext y) (IsStreamPassedWhole x) (IsStreamPassedWhole x)
   next_passed a m w ok b n v d h =
       let p = h.passed in (
         tt,
-        λ _. record {
+        λ answered. record {
           passed = record {
             snap = p.snap;
             of = of (OfNext y) a m w ok b n v d p;
             unread = unread (OfNext y) a m w ok b n v d p;
             on = reach-through x (stand a.spot) (stand b.spot) p.on d.on;
-            each = λ may low. over-over (Knows n p.snap) x (stand a.spot) (stand b.spot) p.on (passed_before (OfNext y) a m w ok b n v d p may low) (passed_now (OfNext y) a m w ok b n v d p may low);
+            each = over-over (Knows n p.snap) x (stand a.spot) (stand b.spot) p.on (passed_before (OfNext y) a m w ok b n v d p) (passed_now (OfNext y) a m w ok b n v d p answered);
           };
           static_row = static_still (OfNext y) a m w ok b n v d p h.static_row;
         },
@@ -106,9 +101,9 @@ module _ (S : ℕ) (laws : CallLaws S) (x y : Pos) where
   head_passed : Keeps S Whatever OfHead (IsStreamPassed x) (IsStreamPassedWhole x)
   head_passed a m w true b n v d h = (
     tt,
-    λ _. record {
+    λ answered. record {
       passed = stood OfHead a m w true b n v d h (ap stand d.gone);
-      static_row = passed_now OfHead a m w true b n v d h;
+      static_row = passed_now OfHead a m w true b n v d h answered;
     },
   )
   head_passed a m w false b n v d h = (tt, λ answered. absurd (cc))
@@ -135,7 +130,7 @@ module _ (x : Pos) where
     of = is;
     unread = none;
     on = subst (Reaches x) (sym at) (passes-itself x);
-    each = λ may low. over-nothing (Knows m s) x (stand r.spot) at;
+    each = over-nothing (Knows m s) x (stand r.spot) at;
   }
 
   pub begun_passed : (m : Memory) (w : Readings) (snap : Option Snap) (s : OfLayers) → IsCacheLayerOf snap (cached_in s) → IsPlacedAt x s → IsUnreadIn w (cached_in s) → ArePassed x (s, m, w)

@@ -27,7 +27,7 @@ use Rattle.rc_paging.specs.declared.layers.HeldSnaps.{HeldSnaps}
 use Rattle.rc_paging.specs.declared.memtables.MemtableStream.{MemtableStream}
 use Rattle.rc_paging.specs.declared.pages.PageErr.TheVariants.{Missing, NoMemory}
 use Rattle.rc_paging.specs.calls.Layers.{AreLayersOf, IsCacheLayerOf, IsMemtableLayerOf, OfLayers, active_in, cache_snap_in, cached_in, held_in, memtable_snap_in, sealed_in}
-use Rattle.rc_paging.specs.Pages.{IsPassedOf, StandCached, StandFor, page_end, readings_with}
+use Rattle.rc_paging.specs.Pages.{IsStretchKnown, StandCached, StandFor, page_end, readings_with}
 use Rattle.rc_paging.specs.calls.Pages.{why}
 use Rattle.rc_paging.specs.calls.Keeping.{IsStreamPassedTo, KeptLayers}
 use Rattle.rc_paging.specs.calls.Words.{IsReadIn, IsReaderIn}
@@ -116,9 +116,9 @@ by_place r m w x y h d z from upto before =
     ]
 
 -- what the stream of a snapshot passed is known to it
-pub passed_of : (snap : Option Snap) (c : Option OfCache) (m : Memory) (w : Readings) (x y : Pos) → IsCacheLayerOf snap c → IfSome c (IsStreamPassedTo x y m w) → IfSome snap (IsPassedOf m x y)
+pub passed_of : (snap : Option Snap) (c : Option OfCache) (m : Memory) (w : Readings) (x y : Pos) → IsCacheLayerOf snap c → IfSome c (IsStreamPassedTo x y m w) → IfSome snap (IsStretchKnown m x y)
 passed_of None c m w x y is h = tt
 passed_of (Some s) None m w x y is h = absurd is
 passed_of (Some s) (Some r) m w x y is h =
     let p = h.whole.passed in
-    subst (IsPassedOf m x y) (sym p.of.snap ∙ is.snap) (λ may low. record { static_row = h.whole.static_row may low; each = by_place r m w x y h (p.each may low) })
+    subst (IsStretchKnown m x y) (sym p.of.snap ∙ is.snap) (record { static_row = h.whole.static_row; each = by_place r m w x y h p.each })

@@ -3,9 +3,8 @@
 --     LinesAreLeft    these lines are left to an open reader
 --     page_end        up to where a page looks
 --     IsStretchKnown, IsPageKnown    what a page passes is known to the row cache
---     IsPassedOf, IsPagePassed    so it is once the page was given
 --     left_on         what is left of lines after a page
-use Rattle.std.specs.Prelude.{◌≡◌, ◌++◌, ◌<◌, ℕ, false, List, [], ◌∷◌, Option, IfSome, MatchOption, Result, Ok, Err, drop, take}
+use Rattle.std.specs.Prelude.{◌≡◌, ◌++◌, ℕ, false, List, [], ◌∷◌, Option, IfSome, MatchOption, Result, Ok, Err, drop, take}
 use Rattle.rc_mutation.specs.declared.mutations.Mutation.{Mutation}
 use Rattle.rc_schema.specs.SchemaValue.{SchemaValue}
 use Rattle.rc_query.specs.declared.lines.OutLine.{OutLine}
@@ -17,14 +16,12 @@ use Rattle.rc_position.specs.Position.{IsBefore, start_bound}
 use Rattle.rc_core.specs.Version.{end_position}
 use Rattle.rc_memory.specs.Memory.{Memory}
 use Rattle.rc_chain.specs.declared.chains.Snap.{Snap}
-use Rattle.rc_cached.specs.Filling.{MayFill}
 use Rattle.rc_stream.specs.Places.{Reaches}
-use Rattle.rc_stream.specs.Snapshot.{most_counted}
 use Rattle.rc_stream.specs.Stream.{Stream}
 use Rattle.rc_cursor.specs.Snapshots.{IsHeadSeen, Knows}
 use Rattle.rc_cacheread.specs.Passing.{IsKnownFrom}
 use Rattle.rc_cacheread.specs.Sharing.{IsStaticRowKnown}
-use Rattle.rc_filler.specs.Fillers.{IsFillerReady, losses}
+use Rattle.rc_filler.specs.Fillers.{IsFillerReady}
 use Rattle.rc_filler.specs.Stands.{StandsForWrites}
 use Rattle.rc_snapshots.specs.Seeing.{SeesAllOf}
 use Rattle.rc_opened.specs.Opened.{AreChangesOf}
@@ -81,14 +78,6 @@ page_end (line.Row key values ∷ lines) slice = start_bound key false
 -- a page of so many of the lines that are left to an open reader is known to its snapshot of the row cache, where there is one: from where what is left of its slice begins, which is at the row of the last line that was given, up to where it looks
 abbrev pub IsPageKnown : Memory → OpenReader → ℕ → List OutLine → Type 0
 IsPageKnown m o n lines = IfSome o.held.cached (IsStretchKnown m o.remainder.slice.from (page_end (drop n lines) o.remainder.slice))
-
--- a stretch that was passed is known to a snapshot, where that may be filled still and what is lost is counted
-abbrev pub IsPassedOf : Memory → (x y : Pos) → Snap → Type 0
-IsPassedOf m x y s = MayFill m s.chain s.pin → losses m < most_counted → IsStretchKnown m x y s
-
--- so is what a page of so many of the lines passed that were left to an open reader, where there is a snapshot of the row cache: all that is to be known to it for such a page
-abbrev pub IsPagePassed : Memory → OpenReader → ℕ → List OutLine → Type 0
-IsPagePassed m o n lines = IfSome o.held.cached (IsPassedOf m o.remainder.slice.from (page_end (drop n lines) o.remainder.slice))
 
 -- what is left of lines after a page of so many; all of them, where it was refused
 abbrev pub left_on : {T : Type 0} → Result T PageErr → ℕ → List OutLine → List OutLine

@@ -10,7 +10,7 @@ ghost use Rattle.rc_cached.specs.Leaving.{LeavesChains};
 ghost use Rattle.rc_cached.specs.Streams.{SayBelow};
 ghost use Rattle.rc_paging.specs.declared.pages.PageErr.TheVariants.{Missing, NoMemory};
 ghost use Rattle.rc_paging.specs.Forms.{ByForm, IsFormKept, held_by, lines_gone_past};
-ghost use Rattle.rc_paging.specs.Pages.{IsPageKnown, IsPagePassed, StandFor, left_on, readings_with};
+ghost use Rattle.rc_paging.specs.Pages.{IsPageKnown, StandFor, left_on, readings_with};
 ghost use Rattle.rc_paging.specs.Remainders.{IsRemainderOf};
 
 use crate::layers::{HeldSnaps, none_there};
@@ -68,7 +68,7 @@ impl PartReader {
         ensures goes { IsFormKept result self.old self.new }
         ensures missing { IfErr result (λ e. e ≡ Missing → IsSome (held_by self.old).cached × (read ≡ None)) }
         ensures known { (below : List Change) (lines : List OutLine) → ⟦<PartReader as LeavesOver<Chains<S>>>⟧.lines self.old chains.old below lines → SayBelow below (readings_with read) → ByForm (λ o. IsPageKnown chains.old o count lines) (λ _. ⊤) self.old → IfErr result (λ e. e ≡ NoMemory) }
-        ensures passed { (below : List Change) (lines : List OutLine) → ⟦<PartReader as LeavesOver<Chains<S>>>⟧.lines self.old chains.old below lines → SayBelow below (readings_with read) → read ≡ None → OnOk result (ByForm (λ o. IsPagePassed chains.old o count lines) (λ _. ⊤) self.old) }
+        ensures passed { (below : List Change) (lines : List OutLine) → ⟦<PartReader as LeavesOver<Chains<S>>>⟧.lines self.old chains.old below lines → SayBelow below (readings_with read) → read ≡ None → OnOk result (ByForm (λ o. IsPageKnown chains.old o count lines) (λ _. ⊤) self.old) }
         ensures unread { read ≡ None → chains.new ≡ chains.old }
         ensures chains { LeavesChains chains.old chains.new }
     {

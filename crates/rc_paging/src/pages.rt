@@ -11,7 +11,7 @@ ghost use Rattle.rc_cached.specs.Streams.{SayBelow};
 ghost use Rattle.rc_paging.specs.declared.pages.PageErr.TheVariants.{Missing, NoMemory};
 ghost use Rattle.rc_position.specs.declared.slices.Slice.{Slice as Part};
 ghost use Rattle.rc_paging.specs.Remainders.{IsRemainderOf};
-ghost use Rattle.rc_paging.specs.Pages.{IsPageKnown, IsPagePassed, LinesAreLeft, StandFor, left_on, readings_with};
+ghost use Rattle.rc_paging.specs.Pages.{IsPageKnown, LinesAreLeft, StandFor, left_on, readings_with};
 
 use crate::layers::{HeldSnaps, put_back, take_out};
 use crate::remainders::Remainder;
@@ -76,7 +76,7 @@ impl OpenReader {
         ensures err { IfErr result (λ _. self.new.behind ≡ self.old.behind) }
         ensures missing { IfErr result (λ e. e ≡ Missing → IsSome self.old.held.cached × (read ≡ None)) }
         ensures known { (below : List Mutation) (lines : List OutLine) → LinesAreLeft S chains.old self.old below lines → SayBelow below (readings_with read) → IsPageKnown chains.old self.old count lines → IfErr result (λ e. e ≡ NoMemory) }
-        ensures passed { (below : List Mutation) (lines : List OutLine) → LinesAreLeft S chains.old self.old below lines → SayBelow below (readings_with read) → read ≡ None → OnOk result (IsPagePassed chains.old self.old count lines) }
+        ensures passed { (below : List Mutation) (lines : List OutLine) → LinesAreLeft S chains.old self.old below lines → SayBelow below (readings_with read) → read ≡ None → OnOk result (IsPageKnown chains.old self.old count lines) }
         ensures unread { read ≡ None → chains.new ≡ chains.old }
         ensures chains { LeavesChains chains.old chains.new }
     {

@@ -9,7 +9,7 @@ ghost use Rattle.rc_opened.specs.Opened.{AreChangesOf};
 ghost use Rattle.rc_cached.specs.Leaving.{LeavesChains};
 ghost use Rattle.rc_cached.specs.Streams.{SayBelow};
 ghost use Rattle.rc_paging.specs.declared.pages.PageErr.TheVariants.{Missing, NoMemory};
-ghost use Rattle.rc_paging.specs.Pages.{IsPassedOf, IsStretchKnown, StandFor, page_end, readings_with};
+ghost use Rattle.rc_paging.specs.Pages.{IsStretchKnown, StandFor, page_end, readings_with};
 ghost use Rattle.rc_paging.specs.calls.Keeping.{AreAhead, ArePassedWhole, IsStreamPassedTo, KeptLayers};
 ghost use Rattle.rc_paging.specs.calls.Layers.{cached_in};
 ghost use Rattle.rc_paging.specs.calls.Pages.{why};
@@ -107,7 +107,7 @@ pub(crate) fn serve<const S: usize>(
     ensures known { (schema : SchemaValue) (below writes later : List Mutation) → AreChangesOf schema below → AreChangesOf schema writes → AreChangesOf schema later → StandFor S chains.old held below writes later → SayBelow below (readings_with read) →
         IfSome held.cached (IsStretchKnown chains.old remainder.now.slice.from (page_end (drop count (drop (given_before remainder.now) (answer (below ++ (writes ++ later)) remainder.now.slice))) remainder.now.slice)) → IfErr result.1 (λ e. e ≡ NoMemory) }
     ensures passed { (schema : SchemaValue) (below writes later : List Mutation) → AreChangesOf schema below → AreChangesOf schema writes → AreChangesOf schema later → StandFor S chains.old held below writes later → SayBelow below (readings_with read) → read ≡ None →
-        OnOk result.1 (IfSome held.cached (IsPassedOf chains.old remainder.now.slice.from (page_end (drop count (drop (given_before remainder.now) (answer (below ++ (writes ++ later)) remainder.now.slice))) remainder.now.slice))) }
+        OnOk result.1 (IfSome held.cached (IsStretchKnown chains.old remainder.now.slice.from (page_end (drop count (drop (given_before remainder.now) (answer (below ++ (writes ++ later)) remainder.now.slice))) remainder.now.slice))) }
     ensures unread { read ≡ None → chains.new ≡ chains.old }
     ensures chains { LeavesChains chains.old chains.new }
 {

@@ -80,7 +80,7 @@ IsFilledAsTold (OpenRead id key slice) Fine before now k k' = (NoneSkipped k k' 
 IsFilledAsTold (Read id count) (Given lines more) before now k k' = NoneLost (losses k.unstored.chains) (losses k'.unstored.chains) → IsKnownOnceAsked id before now k k'
 IsFilledAsTold command reply before now k k' = ⊤
 
--- What a read passed is known: after a read that was answered all is known to its reader's snapshot of the row cache that the read passed, where the reader held what the row cache has of its partition and reads over that still, and nothing was evicted or not taken in meanwhile. So the same read asks the store for nothing then (`AsksNothingWhereKnown`).
+-- What a read passed is known: after a read that was answered all is known to its reader's snapshot of the row cache that the read passed, unless the reader reads past that now. So the same read asks the store for nothing then (`AsksNothingWhereKnown`).
 abbrev pub IsPassedAsTold : State → Command → Reply → Shard → Shard → Type 0
-IsPassedAsTold m (Read id count) (Given lines more) k k' = NoneLost (losses k.unstored.chains) (losses k'.unstored.chains) → (o : PartitionReader) (r : Reader) → lookup (λ q. q == id) k.readers.items ≡ Some o → reader_of id m ≡ Some r → HoldsCached k.cache.entries o → (IsPastNow id k' → ⊥) → IsReadCached k' count o r
+IsPassedAsTold m (Read id count) (Given lines more) k k' = (o : PartitionReader) (r : Reader) → lookup (λ q. q == id) k.readers.items ≡ Some o → reader_of id m ≡ Some r → (IsPastNow id k' → ⊥) → IsReadCached k' count o r
 IsPassedAsTold m command reply k k' = ⊤

@@ -23,7 +23,7 @@ ghost use Rattle.rc_shard.specs.Readers.{cached_of};
 ghost use Rattle.rc_shard.specs.calls.Caching.{LeavesCache};
 ghost use Rattle.rc_shard.specs.calls.Keeping.{CountsStay, StandsForTheSame, TellsOf};
 ghost use Rattle.rc_shard.specs.calls.Looking.{AreKnownStill, IsCacheUsed};
-ghost use Rattle.rc_shard.specs.calls.Reading.{IsSparedPast, IsBesideChains, IsGonePastAt, IsPaged, IsPagedBeside, IsPassedBy, IsGoneOn, IsPutPast, IsReadOfFirst, IsRefilled, IsTouchedPast};
+ghost use Rattle.rc_shard.specs.calls.Reading.{IsSparedPast, IsBesideChains, IsGonePastAt, IsPaged, IsPagedBeside, IsGoneOn, IsPutPast, IsReadOfFirst, IsRefilled, IsTouchedPast};
 
 use crate::readers::PartitionReader;
 use crate::releasing::give_back;
@@ -82,7 +82,7 @@ impl Shard {
         ensures gives { (id : ℕ) (files : Option Files) (m : State) → ⟦<Shard as Machine>⟧.stands files self.old m → position (λ reader. reader.0 == id) self.old.readers.items ≡ Some at → IfOk result (λ gave. IsPaged ⟦<Shard as Machine>⟧.stands files id count m gave self.new) }
         ensures err { OnErr result (StandsForTheSame ⟦<Shard as Machine>⟧.stands self.old self.new) }
         ensures known { (id : ℕ) (files : Option Files) (m : State) (o : ℕ × PartitionReader) (r : Reader) → ⟦<Shard as Machine>⟧.stands files self.old m → position (λ reader. reader.0 == id) self.old.readers.items ≡ Some at → get_or self.old.readers.items at o ≡ o → reader_of id m ≡ Some r → IsReadCached self.old count o.1 r → IfErr result (λ e. e ≡ PageErr.NoMemory) }
-        ensures passed { (id : ℕ) (files : Option Files) (m : State) (o : ℕ × PartitionReader) (r : Reader) → ⟦<Shard as Machine>⟧.stands files self.old m → position (λ reader. reader.0 == id) self.old.readers.items ≡ Some at → get_or self.old.readers.items at o ≡ o → reader_of id m ≡ Some r → OnOk result (IsPassedBy self.old count o.1 r) }
+        ensures passed { (id : ℕ) (files : Option Files) (m : State) (o : ℕ × PartitionReader) (r : Reader) → ⟦<Shard as Machine>⟧.stands files self.old m → position (λ reader. reader.0 == id) self.old.readers.items ≡ Some at → get_or self.old.readers.items at o ≡ o → reader_of id m ≡ Some r → OnOk result (IsReadCached self.old count o.1 r) }
         ensures beside { IsPagedBeside at self.old self.new }
     {
         a_reader_stays();

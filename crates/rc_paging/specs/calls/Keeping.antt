@@ -1,13 +1,10 @@
 -- What calls keep of what an open reader reads.
-use Rattle.std.specs.Prelude.{◌≡◌, ◌<◌, ◌⊎◌, ℕ, List, Option, Some, None, IfSome}
+use Rattle.std.specs.Prelude.{◌≡◌, ◌⊎◌, ℕ, List, Option, Some, None, IfSome}
 use Rattle.rc_position.specs.declared.positions.Pos.{Pos}
 use Rattle.rc_position.specs.Position.{IsBefore}
 use Rattle.rc_core.specs.Version.{end_position}
 use Rattle.rc_stream.specs.Did.{OfNext}
 use Rattle.rc_stream.specs.Places.{Reaches}
-use Rattle.rc_stream.specs.Snapshot.{most_counted}
-use Rattle.rc_cached.specs.Filling.{MayFill}
-use Rattle.rc_filler.specs.Fillers.{losses}
 use Rattle.rc_cursor.specs.Snapshots.{IsHeadSeen, Knows}
 use Rattle.rc_cacheread.specs.Did.{IsKnownFor}
 use Rattle.rc_cacheread.specs.Passing.{IsKnownOver}
@@ -70,18 +67,18 @@ pub record AreFrom (x : Pos) (P : Memory → Readings → OfCache → Type 0) (s
 abbrev pub AreAhead : (x y : Pos) → Option Snap → Three → Type 0
 AreAhead x y snap s = AreFrom x (λ m w r. IsStreamAhead x y snap m r) s
 
--- nothing is read below a cached stream, and it does not stand before x; what it passed from there on is known to its snapshot, where that may be filled still and what is lost is counted
+-- nothing is read below a cached stream, and it does not stand before x; what it passed from there on is known to its snapshot
 pub record IsStreamPassed (x : Pos) (m : Memory) (w : Readings) (r : OfCache) : Type 0 where
   pub snap : Snap
   pub of : IsOfCached snap r
   pub unread : read_below r w ≡ None
   pub on : Reaches x (stand r.spot)
-  pub each : MayFill m snap.chain snap.pin → losses m < most_counted → IsKnownOver (Knows m snap) x (stand r.spot)
+  pub each : IsKnownOver (Knows m snap) x (stand r.spot)
 
 -- and so is the static row
 pub record IsStreamPassedWhole (x : Pos) (m : Memory) (w : Readings) (r : OfCache) : Type 0 where
   pub passed : IsStreamPassed x m w r
-  pub static_row : MayFill m passed.snap.chain passed.snap.pin → losses m < most_counted → IsStaticRowKnown (IsHeadSeen m passed.snap)
+  pub static_row : IsStaticRowKnown (IsHeadSeen m passed.snap)
 
 -- a place is behind a position, or where each partition ends
 abbrev pub IsBehindOrEnds : (y place : Pos) → Type 0

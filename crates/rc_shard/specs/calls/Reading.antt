@@ -2,7 +2,6 @@
 --     with_reader    the state with another reader in place of the one of an id
 --     IsPaged        a reader gave a page
 --     IsGoneOn     a reader goes on past the row cache
---     IsPassedBy     what a page passed is known
 --     IsPastReader   a reader reads past the row cache
 --     IsBesideChains, IsPagedBeside, IsGonePastAt    what is left of everything else
 --     IsReadOfFirst  what was read of the tables of a reader's opening
@@ -32,7 +31,6 @@ use Rattle.rc_lookup.specs.Touched.{AreTouched, IsEntryOfGiven}
 use Rattle.rc_lookup.specs.Memtables.{in_chains}
 use Rattle.rc_paging.specs.declared.forms.PartReader.{PartReader}
 use Rattle.rc_paging.specs.Forms.{ByForm, held_by}
-use Rattle.rc_paging.specs.Pages.{IsPagePassed}
 use Rattle.rc_shard.specs.declared.readers.PartitionReader.{PartitionReader}
 use Rattle.rc_shard.specs.declared.shard.Shard.{Shard}
 use Rattle.rc_shard.specs.Readers.{cached_of, written_snaps_of}
@@ -59,10 +57,6 @@ pub record IsGoneOn (Stood : Option Files → Shard → State → Type 0) (files
   pub said : List Mutation
   pub resaid : IsResaid m reader said
   pub stands : Stood files k' (with_reader id (record reader { said = said }) m)
-
--- what a page of so many of the lines that are left to the machine's reader passed is known, where a reader holds a snapshot of the row cache that may be filled
-abbrev pub IsPassedBy : Shard → ℕ → PartitionReader → Reader → Type 0
-IsPassedBy k count o r = ByForm (λ c. IsPagePassed k.unstored.chains c count (rest_of r)) (λ _. ⊤) o.reader
 
 -- beside the chains all is as it was
 pub record IsBesideChains (old new : Shard) : Type 0 where

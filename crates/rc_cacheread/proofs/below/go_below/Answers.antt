@@ -240,3 +240,6 @@ returns-in-Err-clause-filled g c =
 
 pub returns-in-Err-clause-stays : goal.returns-in-Err-clause-stays
 returns-in-Err-clause-stays g c = λ writes d. d
+
+pub returns-in-Ok-next-clause-answered : goal.returns-in-Ok-next-clause-answered
+returns-in-Ok-next-clause-answered g c = (OfNext c.in-Ok.near, c.args.home.now, c.next.new.self, c.next.new.home, c.next.new.store, c.in-Ok-next.ensures.did c.in-Ok.near (inl (reach-itself c.in-Ok.near)))

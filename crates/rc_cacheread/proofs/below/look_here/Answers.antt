@@ -191,3 +191,8 @@ returns-in-Err-clause-filled g c =
     let w = c.args.store.now in
     let after = c.requires.ready.shares.after_below r.known r.below c.next.new.self r.filler h w c.next.new.home c.next.new.store c.requires.ready.fit c.in-Err.ensures.moves c.in-Err.ensures.ready in
     filled-below kn be fi r.known r.filler h c.next.new.home (IsKnownOver (kn.knows r.known c.next.new.home) (stand r.spot) (stand r.spot)) after.1 after.3 (over-nothing (kn.knows r.known c.next.new.home) (stand r.spot) (stand r.spot) refl)
+
+pub returns-in-Ok-clause-answered : goal.returns-in-Ok-clause-answered
+returns-in-Ok-clause-answered g c =
+    let place = c.args.reader.now.spot.place in
+    (OfNext place, c.args.home.now, c.next.new.self, c.next.new.home, c.next.new.store, c.in-Ok.ensures.did place (inl (reach-itself place)))

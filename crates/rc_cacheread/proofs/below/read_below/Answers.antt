@@ -4,7 +4,7 @@ use Rattle.rc_stream.specs.Did.{OfNext, has_answer}
 use Rattle.rc_stream.specs.Places.{Reaches}
 use Rattle.rc_cacheread.proofs.Orders.{reach-itself}
 use Rattle.rc_cacheread.specs.calls.Below.{IsNotAway}
-use Rattle.rc_cacheread.specs.Did.{ReaderCall, reader_state, ReaderFilled}
+use Rattle.rc_cacheread.specs.Did.{AnswersBelow, ReaderCall, reader_state, ReaderFilled}
 use Rattle.rc_cacheread.specs.Sharing.{of_below, of_filler, of_known}
 use Rattle.rc_cacheread.specs.Spots.{stand}
 use Rattle.rc_cacheread.proofs.Chains.{chain-after}
@@ -14,6 +14,7 @@ use Rattle.std.specs.Prelude.{⊤}
 use Rattle.rc_cacheread.specs.Passing.{IsKnownOver}
 use Rattle.rc_cacheread.proofs.Filled.{filled-on, filled-then}
 use Rattle.rc_cacheread.specs.laws.Passing.{over-nothing}
+use Rattle.rc_cacheread.proofs.Unanswered.{answers-before, on-answer}
 use Rattle.rc_cacheread.proofs.below.read_below.Goals as goal
 
 pub settle-requires-clause-ready : goal.settle-requires-clause-ready
@@ -172,3 +173,17 @@ returns-in-Err-clause-filled g c =
     let s = c.settle.new.reader in
     let k = c.settle.new.home in
     filled-on kn fi r.known s.known r.filler s.filler h k ⊤ (IsKnownOver (kn.knows s.known k) (stand r.spot) (stand s.spot)) (λ e. over-nothing (kn.knows s.known k) (stand r.spot) (stand s.spot) (ap stand c.in-Err.ensures.spot)) c.in-Err.ensures.filled
+
+pub returns-in-Sought-clause-answered : goal.returns-in-Sought-clause-answered
+returns-in-Sought-clause-answered g c =
+    let be = (of_below g.F.Frags.ready g.F.Frags.seen g.F.Frags.ahead g.F.Frags.moves g.F.Frags.did) in
+    let r = c.args.reader.now in
+    let s = c.settle.new.reader in
+    on-answer c.look_here.result (AnswersBelow be s.below c.settle.new.store) (AnswersBelow be r.below c.args.store.now) (answers-before be r.below s.below c.args.store.now c.settle.new.store c.in-Ok.ensures.answered) c.look_here.ensures.answered
+
+pub returns-in-Within-clause-answered : goal.returns-in-Within-clause-answered
+returns-in-Within-clause-answered g c =
+    let be = (of_below g.F.Frags.ready g.F.Frags.seen g.F.Frags.ahead g.F.Frags.moves g.F.Frags.did) in
+    let r = c.args.reader.now in
+    let s = c.settle.new.reader in
+    on-answer c.go_below.result (AnswersBelow be s.below c.settle.new.store) (AnswersBelow be r.below c.args.store.now) (answers-before be r.below s.below c.args.store.now c.settle.new.store c.in-Ok.ensures.answered) c.go_below.ensures.answered

@@ -1,5 +1,5 @@
 -- The stream below was sought to the place, or is as it was.
-use Rattle.std.proofs.Common.{true, false, refl, sym, subst, inr}
+use Rattle.std.proofs.Common.{true, false, refl, sym, subst, inl, inr}
 use Rattle.rc_stream.specs.Did.{OfNext, OfSeek}
 use Rattle.rc_stream.specs.Places.{Reaches}
 use Rattle.rc_stream.specs.Snapshot.{SayThere}
@@ -164,3 +164,9 @@ returns-in-Sought-clause-filled g c =
 
 pub returns-in-Sought-clause-stays : goal.returns-in-Sought-clause-stays
 returns-in-Sought-clause-stays g c = λ writes d. d
+
+pub returns-in-Ok-clause-answered : goal.returns-in-Ok-clause-answered
+returns-in-Ok-clause-answered g c = inl (OfSeek c.args.reader.now.spot.place, c.args.home.now, c.seek.new.self, c.seek.new.home, c.seek.new.store, c.in-Ok.ensures.did)
+
+pub returns-in-Sought-clause-answered : goal.returns-in-Sought-clause-answered
+returns-in-Sought-clause-answered g c = inr (refl, refl)

@@ -1,6 +1,6 @@
 -- What each part leaves to be read.
-use Rattle.std.specs.Prelude.{◌≡◌, ◌++◌, [], ◌∷◌, ⊤}
-use Rattle.std.proofs.Common.{Ok, true, false, refl, sym, ap, ◌∙◌, subst}
+use Rattle.std.specs.Prelude.{◌≡◌, ◌⊎◌, ◌++◌, [], ◌∷◌, ⊤}
+use Rattle.std.proofs.Common.{Ok, true, false, refl, sym, ap, ◌∙◌, subst, inl, inr}
 use Rattle.rc_position.specs.declared.positions.Pos.{Pos}
 use Rattle.rc_position.specs.Position.{IsBefore, row_pos}
 use Rattle.rc_core.specs.declared.parts.Part.TheVariants as part
@@ -9,7 +9,7 @@ use Rattle.rc_stream.specs.Did.{OfNext, has_answer}
 use Rattle.rc_stream.specs.Places.{Reaches}
 use Rattle.rc_stream.specs.Snapshot.{IsPartFrom, SayThere, There, place_behind}
 use Rattle.rc_cacheread.specs.declared.readers.Stage.TheVariants.{Away}
-use Rattle.rc_cacheread.specs.Did.{ReaderCall, reader_state}
+use Rattle.rc_cacheread.specs.Did.{AnswersBelow, ReaderCall, reader_state}
 use Rattle.rc_cacheread.specs.Reading.{behind_row}
 use Rattle.rc_cacheread.specs.Sharing.{IsPlaceAt, of_below, of_filler, of_known}
 use Rattle.rc_cacheread.specs.Spots.{past_row, front, row_due, stand}
@@ -27,6 +27,7 @@ use Rattle.rc_cacheread.specs.Passing.{IsKnownOver}
 use Rattle.rc_cacheread.proofs.Filled.{filled-known, filled-then}
 use Rattle.rc_cacheread.specs.laws.Passing.{over-nothing}
 use Rattle.rc_cacheread.proofs.Passed.{over-ends, over-gap, over-row, whole-ends, whole-gap, whole-nothing, whole-row}
+use Rattle.rc_cacheread.proofs.Unanswered.{on-answer}
 use Rattle.rc_cacheread.proofs.parts.read_part.Goals as goal
 
 pub returns-in-Ok-Row-clause-stays : goal.returns-in-Ok-Row-clause-stays
@@ -429,3 +430,53 @@ returns-in-Ok-End-clause-whole g c = λ v k. whole-nothing (g.K.Known.knows c.ar
 
 pub returns-in-Err-clause-whole : goal.returns-in-Err-clause-whole
 returns-in-Err-clause-whole g c = λ v k. whole-nothing (g.K.Known.knows c.args.reader.now.known c.args.home.now) (stand c.args.reader.now.spot) (stand c.args.reader.now.spot) refl
+
+pub returns-in-Ok-Row-clause-passed : goal.returns-in-Ok-Row-clause-passed
+returns-in-Ok-Row-clause-passed g c = λ v known.
+    let knows = g.K.Known.knows c.args.reader.now.known c.args.home.now in
+    let now = g.K.Known.knows c.next_part.new.known c.next_part.new.home in
+    let r = c.args.reader.now in
+    let s = c.read_row.new.self in
+    let key = c.in-Ok-Row.key in
+    let there : There = (c.in-Ok-Row.row, c.in-Ok-Row.tomb) in
+    let d : IsPartFrom knows r.spot.place r.to (part.Row key c.in-Ok-Row.row c.in-Ok-Row.tomb) = subst (IsPartFrom knows r.spot.place r.to) c.in-Ok-Row.field-0-is c.in-Ok-Row.ensures.part in
+    let at : s.place ≡ row_pos key = c.read_row.ensures.place ∙ d.1 in
+    over-ends now (row_pos key) (stand r.spot) (behind_row key) (stand s) (idle-stand r.spot c.requires.idle ∙ d.1) (λ i. past_row (c.read_row.ensures.row i) (at i))
+    (over-row now (row_pos key) key c.in-Ok-Row.row c.in-Ok-Row.tomb (reach-itself (row_pos key)) (over-nothing now (row_pos key) (row_pos key) refl) (subst (λ x. now x there) d.1 ((c.next_part.ensures.knows r.spot.place there).0 d.2)) d.3)
+
+pub returns-in-Ok-Gap-clause-passed : goal.returns-in-Ok-Gap-clause-passed
+returns-in-Ok-Gap-clause-passed g c = λ v known.
+    let knows = g.K.Known.knows c.args.reader.now.known c.args.home.now in
+    let now = g.K.Known.knows c.next_part.new.known c.next_part.new.home in
+    let r = c.args.reader.now in
+    let s = c.go_over.new.self in
+    let q = c.go_over.ensures in
+    let d : IsPartFrom knows r.spot.place r.to (part.Gap c.in-Ok-Gap.to c.in-Ok-Gap.tomb) = subst (IsPartFrom knows r.spot.place r.to) c.in-Ok-Gap.field-0-is c.in-Ok-Gap.ensures.part in
+    over-ends now r.spot.place (stand r.spot) c.in-Ok-Gap.to (stand s) (idle-stand r.spot c.requires.idle) (ap (λ z. past_row z s.place) (q.row ∙ c.requires.idle.row) ∙ q.place) (over-gap now r.spot.place c.in-Ok-Gap.to c.in-Ok-Gap.tomb (λ z m b. (c.next_part.ensures.knows z (_, c.in-Ok-Gap.tomb)).0 (d.1 z m b)))
+
+pub returns-in-Ok-Missing-clause-passed : goal.returns-in-Ok-Missing-clause-passed
+returns-in-Ok-Missing-clause-passed g c = λ v k. absurd ((subst (IsPartFrom (g.K.Known.knows c.args.reader.now.known c.args.home.now) c.args.reader.now.spot.place c.args.reader.now.to) c.in-Ok-Missing.field-0-is c.in-Ok-Missing.ensures.part).1 v k)
+
+pub returns-in-Ok-End-clause-passed : goal.returns-in-Ok-End-clause-passed
+returns-in-Ok-End-clause-passed g c = λ v k. over-nothing (g.K.Known.knows c.next_part.new.known c.next_part.new.home) (stand c.args.reader.now.spot) (stand c.args.reader.now.spot) refl
+
+pub returns-in-Err-clause-passed : goal.returns-in-Err-clause-passed
+returns-in-Err-clause-passed g c = λ v k. over-nothing (g.K.Known.knows c.next_part.new.known c.next_part.new.home) (stand c.args.reader.now.spot) (stand c.args.reader.now.spot) refl
+
+pub returns-in-Ok-Row-clause-answered : goal.returns-in-Ok-Row-clause-answered
+returns-in-Ok-Row-clause-answered g c = inr ((c.in-Ok-Row.row, c.in-Ok-Row.tomb), (subst (IsPartFrom (g.K.Known.knows c.args.reader.now.known c.args.home.now) c.args.reader.now.spot.place c.args.reader.now.to) c.in-Ok-Row.field-0-is c.in-Ok-Row.ensures.part).2)
+
+pub returns-in-Ok-Gap-clause-answered : goal.returns-in-Ok-Gap-clause-answered
+returns-in-Ok-Gap-clause-answered g c =
+    let r = c.args.reader.now in
+    let d : IsPartFrom (g.K.Known.knows r.known c.args.home.now) r.spot.place r.to (part.Gap c.in-Ok-Gap.to c.in-Ok-Gap.tomb) = subst (IsPartFrom (g.K.Known.knows r.known c.args.home.now) r.spot.place r.to) c.in-Ok-Gap.field-0-is c.in-Ok-Gap.ensures.part in
+    inr ((_, c.in-Ok-Gap.tomb), d.1 r.spot.place (reach-itself r.spot.place) d.0.0)
+
+pub returns-in-Ok-Missing-clause-answered : goal.returns-in-Ok-Missing-clause-answered
+returns-in-Ok-Missing-clause-answered g c =
+    let be = (of_below g.F.Frags.ready g.F.Frags.seen g.F.Frags.ahead g.F.Frags.moves g.F.Frags.did) in
+    let r = c.args.reader.now in
+    on-answer c.read_below.result (AnswersBelow be r.below c.args.store.now) (AnswersBelow be r.below c.args.store.now ⊎ ((v : There) × g.K.Known.knows r.known c.args.home.now r.spot.place v)) inl c.read_below.ensures.answered
+
+pub returns-in-Ok-End-clause-answered : goal.returns-in-Ok-End-clause-answered
+returns-in-Ok-End-clause-answered g c = absurd (never c.requires.within (subst (IsPartFrom (g.K.Known.knows c.args.reader.now.known c.args.home.now) c.args.reader.now.spot.place c.args.reader.now.to) c.in-Ok-End.field-0-is c.in-Ok-End.ensures.part))

@@ -181,3 +181,6 @@ returns-clause-filled g c =
     let w = c.args.store.now in
     let after = c.requires.ready.shares.after_below r.known r.below c.head.new.self r.filler h w c.head.new.home c.head.new.store c.requires.ready.fit c.in-Err.ensures.moves c.in-Err.ensures.ready in
     filled-below kn be fi r.known r.filler h c.head.new.home ⊤ after.1 after.3 tt
+
+pub returns-in-Ok-clause-answered : goal.returns-in-Ok-clause-answered
+returns-in-Ok-clause-answered g c = (OfHead, c.args.home.now, c.head.new.self, c.head.new.home, c.head.new.store, c.in-Ok.ensures.did)

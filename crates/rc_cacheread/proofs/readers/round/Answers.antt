@@ -1,13 +1,14 @@
 -- What was due was given, or more was read.
-use Rattle.std.specs.Prelude.{◌≡◌}
+use Rattle.std.specs.Prelude.{◌≡◌, ◌⊎◌}
 use Rattle.std.proofs.Common.{Some, true, false, refl, sym, ap, ◌∙◌, subst}
 use Rattle.rc_stream.specs.Did.{OfNext}
 use Rattle.rc_stream.specs.Places.{Reaches}
+use Rattle.rc_stream.specs.Snapshot.{There}
 use Rattle.rc_stream.specs.Stream.{took}
 use Rattle.rc_mutation.specs.Fragments.{tomb_after}
 use Rattle.rc_cacheread.specs.declared.spots.Spot.{Spot}
 use Rattle.rc_cacheread.specs.declared.spots.Turn.TheVariants as turn
-use Rattle.rc_cacheread.specs.Did.{IsKnownFor, KnownStep, ReaderCall, ReaderFilled}
+use Rattle.rc_cacheread.specs.Did.{AnswersBelow, CallsSnapshotAlone, IsKnownFor, KnownStep, ReaderCall, ReaderFilled, reader_state}
 use Rattle.rc_cacheread.specs.Sharing.{of_below, of_filler, of_known}
 use Rattle.rc_cacheread.specs.Spots.{stand}
 use Rattle.rc_cacheread.specs.calls.Spots.{GivesDue}
@@ -20,6 +21,8 @@ use Rattle.rc_cacheread.specs.Passing.{IsKnownOver}
 use Rattle.rc_cacheread.proofs.Filled.{filled-still}
 use Rattle.rc_cacheread.specs.laws.Passing.{over-nothing}
 use Rattle.rc_cacheread.proofs.Passed.{known-here, whole-ends}
+use Rattle.rc_cacheread.proofs.Lists.{untrue}
+use Rattle.rc_cacheread.proofs.Unanswered.{of-answer, same-itself, unanswered-part}
 use Rattle.rc_cacheread.proofs.readers.round.Goals as goal
 
 pub returns-in-Ok-Given-clause-says : goal.returns-in-Ok-Given-clause-says
@@ -117,6 +120,7 @@ returns-in-Ok-Given-clause-did g c = λ y covers.
       to = refl;
       quiet = λ q. ((chain-none (KnownStep kn.did) true (r.known, h), refl, refl, refl), subst (λ x. IsKnownFor (OfNext y) (kn.knows r.known h) (kn.heads r.known h) x r.to) (sym e.3) q);
       filled = filled-still kn fi r.known r.filler h (IsKnownOver (kn.knows r.known h) (stand r.spot) (stand c.give.new.self)) (over-nothing (kn.knows r.known h) (stand r.spot) (stand c.give.new.self) e.3);
+      unanswered = λ ok mute. record { below = refl; store = refl; same = same-itself (kn.knows r.known h); now = over-nothing (kn.knows r.known h) (stand r.spot) (stand c.give.new.self) e.3 };
       stays = stays-alike kn be fi r c.give.new.self h w e.3 e.4;
     }
 
@@ -136,6 +140,7 @@ returns-in-Ok-Nothing-clause-did g c = λ y covers.
       to = refl;
       quiet = λ q. ((chain-none (KnownStep kn.did) true (r.known, h), refl, refl, refl), subst (λ x. IsKnownFor (OfNext y) (kn.knows r.known h) (kn.heads r.known h) x r.to) (sym e.0.from) q);
       filled = filled-still kn fi r.known r.filler h (IsKnownOver (kn.knows r.known h) (stand r.spot) (stand c.give.new.self)) (over-nothing (kn.knows r.known h) (stand r.spot) (stand c.give.new.self) e.0.from);
+      unanswered = λ ok mute. record { below = refl; store = refl; same = same-itself (kn.knows r.known h); now = over-nothing (kn.knows r.known h) (stand r.spot) (stand c.give.new.self) e.0.from };
       stays = stays-alike kn be fi r c.give.new.self h w e.0.from e.0.tomb;
     }
 
@@ -155,6 +160,7 @@ returns-in-Ok-Closed-clause-did g c = λ y covers.
       to = refl;
       quiet = λ q. ((chain-none (KnownStep kn.did) true (r.known, h), refl, refl, refl), subst (λ x. IsKnownFor (OfNext y) (kn.knows r.known h) (kn.heads r.known h) x r.to) (sym e.2) q);
       filled = filled-still kn fi r.known r.filler h (IsKnownOver (kn.knows r.known h) (stand r.spot) (stand c.give.new.self)) (over-nothing (kn.knows r.known h) (stand r.spot) (stand c.give.new.self) e.2);
+      unanswered = λ ok mute. record { below = refl; store = refl; same = same-itself (kn.knows r.known h); now = over-nothing (kn.knows r.known h) (stand r.spot) (stand c.give.new.self) e.2 };
       stays = stays-closed kn be fi r c.give.new.self h w e;
     }
 
@@ -181,6 +187,14 @@ returns-in-Ok-Unread-clause-did g c = λ y covers.
           let v = known-here (kn.knows r.known h) (stand r.spot) place k (q place (subst (λ z. Reaches (stand r.spot) z) (sym k) (reach-itself (stand r.spot))) (end-reaches kn be fi n h w c.args.upto.now y e.1 e.2 now) e.3) in
           (c.read_part.ensures.quiet v.0 v.1, still-known (kn.knows r.known h) (kn.knows c.read_part.new.reader.known c.read_part.new.home) (c.read_part.ensures.keeps v.0 v.1) (stand r.spot) (stand c.read_part.new.reader.spot) (whole-ends (kn.knows r.known h) (stand n.spot) (stand r.spot) (stand c.read_part.new.reader.spot) (stand c.read_part.new.reader.spot) (sym e.0.from) refl (c.read_part.ensures.whole v.0 v.1)) y (kn.heads r.known h) (kn.heads c.read_part.new.reader.known c.read_part.new.home) r.to c.read_part.new.reader.to on (sym c.read_part.ensures.to) q);
       filled = subst (λ x. ReaderFilled kn fi r.known r.filler h c.read_part.new.reader.known c.read_part.new.reader.filler c.read_part.new.home (IsKnownOver (kn.knows c.read_part.new.reader.known c.read_part.new.home) x (stand c.read_part.new.reader.spot))) e.0.from c.read_part.ensures.filled;
+      unanswered = λ ok mute.
+          let m = c.read_part.new.reader in
+          let g = c.read_part.new.home in
+          unanswered-part kn be r n m h g w c.read_part.new.store place (IsKnownOver (kn.knows m.known g) (stand r.spot) (stand m.spot)) refl refl mute
+          (of-answer c.read_part.result (AnswersBelow be r.below w ⊎ ((v : There) × kn.knows r.known h place v)) ok c.read_part.ensures.answered)
+          (λ v k. subst (λ o. CallsSnapshotAlone kn o (reader_state n h w) (reader_state m g c.read_part.new.store)) ok (c.read_part.ensures.quiet v k))
+          c.read_part.ensures.keeps
+          (λ v k. subst (λ x. IsKnownOver (kn.knows m.known g) x (stand m.spot)) e.0.from (c.read_part.ensures.passed v k));
       stays = λ writes d. c.read_part.ensures.stays writes (stays-alike kn be fi r c.give.new.self h w e.0.from e.0.tomb writes d);
     }
 
@@ -200,5 +214,6 @@ returns-in-Err-clause-did g c = λ y covers.
       to = refl;
       quiet = λ q. ((chain-none (KnownStep kn.did) false (r.known, h), refl, refl, refl), subst (λ s. IsKnownFor (OfNext y) (kn.knows r.known h) (kn.heads r.known h) (stand s) r.to) (sym same) q);
       filled = filled-still kn fi r.known r.filler h (IsKnownOver (kn.knows r.known h) (stand r.spot) (stand c.give.new.self)) (over-nothing (kn.knows r.known h) (stand r.spot) (stand c.give.new.self) (ap stand same));
+      unanswered = λ ok mute. untrue (sym ok);
       stays = stays-alike kn be fi r c.give.new.self h w (ap stand same) (ap (λ (x : Spot). x.tomb) same);
     }

@@ -3,7 +3,7 @@ use Rattle.std.specs.Prelude.{⊤, IsTrue}
 use Rattle.std.proofs.Common.{true, false, refl, sym, ◌∙◌, subst}
 use Rattle.rc_stream.specs.Did.{OfHead, has_answer}
 use Rattle.rc_stream.specs.Places.{Reaches}
-use Rattle.rc_cacheread.specs.Did.{KnownStep, ReaderCall, reader_state, IsFilledFor}
+use Rattle.rc_cacheread.specs.Did.{AnswersBelow, KnownStep, ReaderCall, reader_state, IsFilledFor}
 use Rattle.rc_cacheread.specs.Sharing.{IsPlaceAt, of_below, of_filler, of_known, IsStaticRowKnown}
 use Rattle.rc_cacheread.specs.Spots.{stand}
 use Rattle.rc_cacheread.proofs.Chains.{chain-after, chain-one}
@@ -15,6 +15,7 @@ use Rattle.rc_cacheread.proofs.Parting.{ready-known, sees-known-still, stays-kno
 use Rattle.rc_cacheread.proofs.Stepping.{known-calls}
 use Rattle.rc_mutation.specs.declared.fragments.HeadAt.{HeadAt}
 use Rattle.rc_cacheread.proofs.Filled.{filled-known, filled-then}
+use Rattle.rc_cacheread.proofs.Unanswered.{of-answer}
 use Rattle.rc_cacheread.proofs.readers.whole_head.Goals as goal
 
 pub returns-then-at-clause-head : goal.returns-then-at-clause-head
@@ -53,6 +54,7 @@ returns-then-at-clause-did g c =
       to = refl;
       quiet = λ q. ((one, refl, refl, refl), λ a k. q a (left.heads a k));
       filled = filled-known kn be fi r.below r.filler w r.known c.head_known.new.self h c.head_known.new.home (IsStaticRowKnown (kn.heads c.head_known.new.self c.head_known.new.home)) left c.head_known.ensures.knows (λ a k. subst (λ (z : HeadAt). IsTrue z.known) (c.requires.ready.shares.one_head r.known h c.in-Ok.at a c.in-Ok.ensures.head (left.heads a k)) c.if-at.true);
+      unanswered = λ e mute. record { below = refl; store = refl; same = c.head_known.ensures.knows; now = (λ a k. subst (λ (z : HeadAt). IsTrue z.known) (c.requires.ready.shares.one_head r.known h c.in-Ok.at a c.in-Ok.ensures.head (left.heads a k)) c.if-at.true) };
       stays = stays-known kn be fi r c.head_known.new.self r.spot r.stage r.lags h c.head_known.new.home w left c.head_known.ensures.knows (reach-itself (stand r.spot)) (carries-same (be.seen r.below h w) (be.seen r.below c.head_known.new.home w) r.stage (stand r.spot) r.spot.tomb left.seen);
     }
 
@@ -130,6 +132,7 @@ returns-clause-did g c =
       to = c.head_below.ensures.to;
       quiet = λ q. untrue (sym (q c.in-Ok.at c.in-Ok.ensures.head) ∙ c.if-at.false);
       filled = filled-then kn fi r.known c.head_known.new.self c.head_below.new.reader.known r.filler r.filler c.head_below.new.reader.filler h c.head_known.new.home c.head_below.new.home ⊤ (IsFilledFor OfHead (has_answer c.head_below.result) (kn.knows c.head_below.new.reader.known c.head_below.new.home) (kn.heads c.head_below.new.reader.known c.head_below.new.home) (stand r.spot) (stand c.head_below.new.reader.spot)) (filled-known kn be fi r.below r.filler w r.known c.head_known.new.self h c.head_known.new.home ⊤ left c.head_known.ensures.knows tt) c.head_below.ensures.filled;
+      unanswered = λ e mute. absurd (mute (of-answer c.head_below.result (AnswersBelow be r.below w) e c.head_below.ensures.answered));
       stays = λ writes d. c.head_below.ensures.stays writes (stays-known kn be fi r c.head_known.new.self r.spot r.stage r.lags h c.head_known.new.home w left c.head_known.ensures.knows (reach-itself (stand r.spot)) (carries-same (be.seen r.below h w) (be.seen r.below c.head_known.new.home w) r.stage (stand r.spot) r.spot.tomb left.seen) writes d);
     }
 
@@ -165,6 +168,7 @@ returns-in-Err-clause-did g c =
       to = refl;
       quiet = λ q. ((one, refl, refl, refl), λ a k. q a (left.heads a k));
       filled = filled-known kn be fi r.below r.filler w r.known c.head_known.new.self h c.head_known.new.home ⊤ left c.head_known.ensures.knows tt;
+      unanswered = λ e mute. untrue (sym e);
       stays = stays-known kn be fi r c.head_known.new.self r.spot r.stage r.lags h c.head_known.new.home w left c.head_known.ensures.knows (reach-itself (stand r.spot)) (carries-same (be.seen r.below h w) (be.seen r.below c.head_known.new.home w) r.stage (stand r.spot) r.spot.tomb left.seen);
     }
 

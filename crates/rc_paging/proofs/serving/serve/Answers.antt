@@ -7,7 +7,7 @@ use Rattle.rc_query.specs.Answer.{answer}
 use Rattle.rc_cached.specs.declared.readings.Readings.{Readings}
 use Rattle.rc_cached.specs.Streams.{SayBelow}
 use Rattle.rc_paging.specs.calls.Layers.{cached_in}
-use Rattle.rc_paging.specs.Pages.{IsPassedOf, IsStretchKnown, page_end}
+use Rattle.rc_paging.specs.Pages.{IsStretchKnown, page_end}
 use Rattle.rc_paging.specs.calls.Pages.{why}
 use Rattle.rc_paging.specs.calls.Keeping.{AreAhead, ArePassedWhole, IsStreamPassedTo, Three}
 use Rattle.rc_paging.specs.calls.Words.{IsReadIn}
@@ -80,7 +80,7 @@ returns-in-Ok-went-clause-passed g c = λ schema below writes later tables fits 
     let e = k.2.unread start in
     let same = (c.passed-layers.ensures.kept.unread e.0).1 ∙ e.1 in
     let there = ends ∙ (λ i. page_end (drop c.args.count (drop (c.given_before-before.ensures i) (answer (below ++ (writes ++ later)) c.args.remainder.now.slice))) slice) in
-    subst (λ (z : Memory × Pos). IfSome c.args.held.cached (IsPassedOf z.0 slice.from z.1)) (λ i. (same i, there i)) known
+    subst (λ (z : Memory × Pos). IfSome c.args.held.cached (IsStretchKnown z.0 slice.from z.1)) (λ i. (same i, there i)) known
 
 -- ---- what it passes is refused
 

@@ -14,6 +14,8 @@ use Rattle.rc_cacheread.proofs.Sought.{at-begun, on-begun, ready-begun, sees-beg
 use Rattle.rc_cacheread.proofs.Turning.{ready-alike, sees-alike, stays-alike}
 use Rattle.std.specs.Prelude.{⊤}
 use Rattle.rc_cacheread.proofs.Filled.{filled-still}
+use Rattle.rc_cacheread.proofs.Lists.{untrue}
+use Rattle.rc_cacheread.proofs.Unanswered.{same-itself}
 use Rattle.rc_cacheread.proofs.readers.CacheReaderFrags.seek.Goals as goal
 
 pub returns-in-Ok-false-clause-seen : goal.returns-in-Ok-false-clause-seen
@@ -51,6 +53,7 @@ returns-in-Ok-false-clause-did g c =
       to = refl;
       quiet = λ q. ((chain-none (KnownStep kn.did) true (r.known, h), refl, refl, refl), tt);
       filled = filled-still kn fi r.known r.filler h ⊤ tt;
+      unanswered = λ e mute. record { below = refl; store = refl; same = same-itself (kn.knows r.known h); now = tt };
       stays = stays-alike kn be fi r c.seek.new.self h w (subst (GoesOn c.args.to.now c.args.self.now.spot c.seek.new.self) c.in-Ok-false.field-0-test c.in-Ok-false.ensures.ok).from (subst (GoesOn c.args.to.now c.args.self.now.spot c.seek.new.self) c.in-Ok-false.field-0-test c.in-Ok-false.ensures.ok).tomb;
     }
 
@@ -102,6 +105,7 @@ returns-in-Ok-true-clause-did g c =
       to = refl;
       quiet = λ q. ((chain-none (KnownStep kn.did) true (r.known, h), refl, refl, refl), tt);
       filled = filled-still kn fi r.known r.filler h ⊤ tt;
+      unanswered = λ e mute. record { below = refl; store = refl; same = same-itself (kn.knows r.known h); now = tt };
       stays = stays-begun kn be fi r c.seek.new.self c.args.to.now h w (subst (GoesOn c.args.to.now c.args.self.now.spot c.seek.new.self) c.in-Ok-true.field-0-test c.in-Ok-true.ensures.ok);
     }
 
@@ -153,6 +157,7 @@ returns-in-Err-clause-did g c =
       to = refl;
       quiet = λ q. ((chain-none (KnownStep kn.did) false (r.known, h), refl, refl, refl), tt);
       filled = filled-still kn fi r.known r.filler h ⊤ tt;
+      unanswered = λ e mute. untrue (sym e);
       stays = stays-alike kn be fi r c.seek.new.self h w c.in-Err.ensures.err.from c.in-Err.ensures.err.tomb;
     }
 

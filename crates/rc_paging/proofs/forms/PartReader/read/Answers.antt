@@ -2,7 +2,7 @@
 use Rattle.std.proofs.Common.{sym, subst}
 use Rattle.std.specs.Prelude.{⊤, OnOk}
 use Rattle.rc_paging.specs.Forms.{ByForm}
-use Rattle.rc_paging.specs.Pages.{IsPageKnown, IsPagePassed}
+use Rattle.rc_paging.specs.Pages.{IsPageKnown}
 use Rattle.rc_paging.specs.Remainders.{IsRemainderOf}
 use Rattle.rc_paging.proofs.OfForms.{cached_by, cached_of, past_refused}
 use Rattle.rc_paging.proofs.forms.PartReader.read.Goals as goal
@@ -20,4 +20,4 @@ returns-in-Cached-clause-known g c = λ below lines l say known.
 
 pub returns-in-Cached-clause-passed : goal.returns-in-Cached-clause-passed
 returns-in-Cached-clause-passed g c = λ below lines l say none.
-    subst (λ r. OnOk c.read.result (ByForm (λ o. IsPagePassed c.args.chains.now o c.args.count lines) (λ _. ⊤) r)) (sym c.in-Cached.is) (c.read.ensures.passed below lines (cached_by _ _ c.args.self.now c.in-Cached.reader c.in-Cached.is l) say none)
+    subst (λ r. OnOk c.read.result (ByForm (λ o. IsPageKnown c.args.chains.now o c.args.count lines) (λ _. ⊤) r)) (sym c.in-Cached.is) (c.read.ensures.passed below lines (cached_by _ _ c.args.self.now c.in-Cached.reader c.in-Cached.is l) say none)

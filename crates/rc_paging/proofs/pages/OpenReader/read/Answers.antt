@@ -4,7 +4,7 @@ use Rattle.std.specs.Prelude.{IfErr, IfOk, IfSome, OnOk, nat_lt}
 use Rattle.rc_paging.specs.declared.layers.HeldSnaps.{HeldSnaps}
 use Rattle.rc_paging.specs.declared.pages.PageErr.TheVariants.{NoMemory}
 use Rattle.rc_query.specs.Answer.{answer}
-use Rattle.rc_paging.specs.Pages.{IsPassedOf, IsStretchKnown, StandFor, page_end}
+use Rattle.rc_paging.specs.Pages.{IsStretchKnown, StandFor, page_end}
 use Rattle.rc_paging.specs.Remainders.{given_before}
 use Rattle.rc_paging.specs.calls.Remainders.{after_lines}
 use Rattle.rc_paging.proofs.OfSlices.{same_of, still_of}
@@ -72,6 +72,6 @@ returns-in-Ok-go_behind-clause-passed g c = λ below lines l say none.
     let slice = c.args.self.now.remainder.slice in
     let behind = drop c.args.count (drop (given_before c.args.self.now.remainder) (answer (below ++ (l.writes ++ l.later)) slice)) in
     let e = c.serve-gave.ensures.passed l.schema below l.writes l.later l.of_tables l.of_sealed l.of_active stood say none in
-    let f = subst (λ r. OnOk r (IfSome c.take_out-held.result.cached (IsPassedOf c.args.chains.now slice.from (page_end behind slice)))) c.in-Ok.is e in
-    let h = subst (λ (h : HeldSnaps). IfSome h.cached (IsPassedOf c.args.chains.now slice.from (page_end behind slice))) c.take_out-held.ensures.taken f in
-    subst (λ ls. IfSome c.args.self.now.held.cached (IsPassedOf c.args.chains.now slice.from (page_end (drop c.args.count ls) slice))) (sym l.are) h
+    let f = subst (λ r. OnOk r (IfSome c.take_out-held.result.cached (IsStretchKnown c.args.chains.now slice.from (page_end behind slice)))) c.in-Ok.is e in
+    let h = subst (λ (h : HeldSnaps). IfSome h.cached (IsStretchKnown c.args.chains.now slice.from (page_end behind slice))) c.take_out-held.ensures.taken f in
+    subst (λ ls. IfSome c.args.self.now.held.cached (IsStretchKnown c.args.chains.now slice.from (page_end (drop c.args.count ls) slice))) (sym l.are) h

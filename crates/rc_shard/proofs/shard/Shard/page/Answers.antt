@@ -9,7 +9,6 @@ use Rattle.rc_shard.specs.declared.readers.PartitionReader.{PartitionReader}
 use Rattle.rc_shard.specs.declared.shard.Shard.{Shard}
 use Rattle.rc_shard.specs.Knowing.{IsReadCached}
 use Rattle.rc_shard.specs.Readers.{cached_of, lies_below}
-use Rattle.rc_shard.specs.calls.Reading.{IsPassedBy}
 use Rattle.rc_shard.proofs.Paged.{form-back, form-kept, if-paged, on-unpaged, paged-beside}
 use Rattle.rc_shard.proofs.Places.{place-of}
 use Rattle.rc_shard.proofs.Rereading.{reader-at, same-some}
@@ -79,4 +78,4 @@ returns-clause-passed c = λ id files m o r s place here entry.
     let f = found-at _ files k m id c.args.at d s p there in
     let reader = same-some o.1 d.1 _ (reader-at id c.args.at o k.readers.items p here) (reader-at id c.args.at d k.readers.items p there) in
     let machine = same-some r f.reader _ entry f.found in
-    subst (λ (q : PartitionReader × Reader). OnOk c.read.result (IsPassedBy k c.args.count q.0 q.1)) (λ i. (sym reader i, sym machine i)) (c.read.ensures.passed (lies_below s.cached.below (cached_of d.1)) (rest_of f.reader) f.served.left tt refl)
+    subst (λ (q : PartitionReader × Reader). OnOk c.read.result (IsReadCached k c.args.count q.0 q.1)) (λ i. (sym reader i, sym machine i)) (c.read.ensures.passed (lies_below s.cached.below (cached_of d.1)) (rest_of f.reader) f.served.left tt refl)

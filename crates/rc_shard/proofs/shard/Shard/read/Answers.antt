@@ -11,11 +11,11 @@ use Rattle.rc_shard.specs.Losing.{LosesInCrowd}
 use Rattle.rc_shard.specs.calls.Reading.{with_reader}
 use Rattle.rc_shard.proofs.Given.{counts-after, filled-given, filled-past, given-counts, given-of, is-there, paged-kept, paged-place, past-was, reader-in, stays-behind, stays-given, stops-behind, stops-same, takes-behind, takes-told, there-now, touches-given, touches-past, untold-counts, untold-of}
 use Rattle.rc_shard.proofs.Looking.{on-ok-weaker}
-use Rattle.rc_shard.proofs.Passing.{holds-may, passed-given, passed-past}
+use Rattle.rc_shard.proofs.Passing.{passed-given, passed-past}
 use Rattle.rc_shard.proofs.Places.{nowhere-of, place-of}
 use Rattle.rc_shard.proofs.Rereading.{reader-at, same-some}
 use Rattle.rc_shard.proofs.Standing.{if-ok-weaker, on-err-weaker}
-use Rattle.rc_shard.proofs.Taking.{found-at, takes-no-read, takes-paged}
+use Rattle.rc_shard.proofs.Taking.{takes-no-read, takes-paged}
 use Rattle.rc_shard.proofs.shard.Shard.read.Goals as goal
 
 pub page-requires : goal.page-requires
@@ -83,9 +83,7 @@ returns-in-Ok-clause-passes g c = λ m s.
     let p = place-of id k.readers.items at place in
     let here = is-there k id at place in
     let given = given-of k c.page.new.self c.give.new.self id at d c.in-Ok.lines p here c.page.ensures.beside c.give.ensures.beside (λ o h. c.give.ensures.touches o h) c.give.ensures.left in
-    let f = found-at _ files k m id at d s p here in
     passed-given id c.args.count at d c.in-Ok.lines c.in-Ok.more c.give.result m k c.give.new.self p here c.give.ensures.reply given
-    (λ h. holds-may k.cache.entries k.unstored.chains d.1 h s.cached.are c.known.ensures.told s.cached.one c.known.ensures.sound f.served.held.cached)
     (λ r entry. c.in-Ok.ensures.passed id files m d r s place here entry)
 
 pub returns-in-Ok-clause-stays : goal.returns-in-Ok-clause-stays
